@@ -1,0 +1,47 @@
+-- The arithmetic of section 6 of source 003, with what document 01 fixes.
+-- Assumes nothing.
+use mathlib.Core.Bool.{Bool, not, cond, _&&_}
+use Prim.Native.Nat.{ℕ}
+use lib.IntN.{ℤ, pos, negℤ, _+ℤ_, _-ℤ_, _*ℤ_}
+use lib.Signed.{ltZ, leZ, shrZ}
+use Rattle.laws.specs.Clamp.{clamp}
+
+-- a negative constant, as it is printed: `neg 11` is -11
+abbrev pub neg : ℕ → ℤ
+neg n = negℤ (pos n)
+
+-- stops at -32768 and 32767
+abbrev pub stop : ℤ → ℤ
+stop z = clamp (neg 32768) (pos 32767) z
+
+-- A + B
+unfoldable pub add : ℤ → ℤ → ℤ
+add a b = stop (a +ℤ b)
+
+-- A - B
+unfoldable pub sub : ℤ → ℤ → ℤ
+sub a b = stop (a -ℤ b)
+
+-- A * B: the product shifted right by 15, rounding down. The stop concerns -32768 * -32768 alone
+unfoldable pub mul : ℤ → ℤ → ℤ
+mul a b = stop (shrZ (a *ℤ b) 32768)
+
+-- limited to the range of XIN, XOUT, RL and RH
+unfoldable pub limit : ℤ → ℤ
+limit z = clamp (neg 16384) (pos 16383) z
+
+-- the sign. The size is `mag`: z itself from 0 up, -1 - z below 0
+abbrev pub negative : ℤ → Bool
+negative z = ltZ z (pos 0)
+
+-- SGi = SGj
+unfoldable pub sameSign : ℤ → ℤ → Bool
+sameSign a b = cond (negative a) (negative b) (not (negative b))
+
+-- lo ≤ z ≤ hi
+unfoldable pub within : ℤ → ℤ → ℤ → Bool
+within lo hi z = leZ lo z && leZ z hi
+
+-- a = b
+unfoldable pub equal : ℤ → ℤ → Bool
+equal a b = within a a b

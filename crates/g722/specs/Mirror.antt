@@ -1,0 +1,50 @@
+-- The two mirror filters, section 5 of source 003, with the exact sums that document 01 fixes.
+-- Assumes nothing.
+use mathlib.Core.List.{List}
+use Prim.Native.Nat.{ℕ, zero, suc, _+_, _*_, _-_}
+use lib.IntN.{ℤ, pos, _+ℤ_, _-ℤ_, _*ℤ_}
+use lib.ListN.{getD}
+use lib.Signed.{shrZ}
+use Rattle.g722.specs.Arithmetic.{limit}
+use Rattle.g722.specs.Tables.{h}
+
+-- f 0 + f 1 + .. + f (n - 1)
+unfoldable pub sum : (ℕ → ℤ) → ℕ → ℤ
+sum f zero = pos 0
+sum f (suc n) = sum f n +ℤ f n
+
+-- Hi
+unfoldable pub coefficient : ℕ → ℤ
+coefficient i = getD h i (pos 0)
+
+-- XINi: of 24 samples, oldest first, the one i places before the newest
+unfoldable pub xin : List ℤ → ℕ → ℤ
+xin x i = getD x (23 - i) (pos 0)
+
+-- ACCUMA and ACCUMB
+unfoldable pub accuma : List ℤ → ℤ
+accuma x = sum (λ (i : ℕ). coefficient (2 * i) *ℤ xin x (2 * i)) 12
+
+unfoldable pub accumb : List ℤ → ℤ
+accumb x = sum (λ (i : ℕ). coefficient (2 * i + 1) *ℤ xin x (2 * i + 1)) 12
+
+-- LOWT and HIGHT
+unfoldable pub lowt : List ℤ → ℤ
+lowt x = limit (shrZ (accuma x +ℤ accumb x) 8192)
+
+unfoldable pub hight : List ℤ → ℤ
+hight x = limit (shrZ (accuma x -ℤ accumb x) 8192)
+
+-- RECA and RECB: XDi and XSi of twelve pairs, oldest first
+unfoldable pub xd : List ℤ → List ℤ → ℕ → ℤ
+xd rl rh i = getD rl (11 - i) (pos 0) -ℤ getD rh (11 - i) (pos 0)
+
+unfoldable pub xs : List ℤ → List ℤ → ℕ → ℤ
+xs rl rh i = getD rl (11 - i) (pos 0) +ℤ getD rh (11 - i) (pos 0)
+
+-- ACCUMC and ACCUMD: XOUT1, the earlier sample, and XOUT2
+unfoldable pub accumc : List ℤ → List ℤ → ℤ
+accumc rl rh = limit (shrZ (sum (λ (i : ℕ). coefficient (2 * i) *ℤ xd rl rh i) 12) 4096)
+
+unfoldable pub accumd : List ℤ → List ℤ → ℤ
+accumd rl rh = limit (shrZ (sum (λ (i : ℕ). coefficient (2 * i + 1) *ℤ xs rl rh i) 12) 4096)

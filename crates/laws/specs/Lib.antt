@@ -1,0 +1,8 @@
+-- What several crates' definitions and proofs are built from.
+pub mod Outcome
+pub mod Every
+pub mod Rising
+pub mod Order
+pub mod Clamp
+pub mod Size
+pub mod Back

@@ -1,0 +1,16 @@
+-- What a call gives back and what it leaves in lent memory. A call's meaning is one outcome for each input.
+-- Assumes nothing.
+use mathlib.Core.Path.{_≡_, sym, _∙_}
+
+pub record Outcome (A B : Type 0) : Type 0 where
+  pub answer : A
+  pub left : B
+
+-- an answer and what is left are those of the outcome: the form of every contract over lent memory
+pub record Does {A B : Type 0} (x : Outcome A B) (r : A) (l : B) : Type 0 where
+  pub answer : r ≡ x .answer
+  pub left : l ≡ x .left
+
+-- such a contract leaves one answer and one content
+pub once : {A B : Type 0} {x : Outcome A B} {r r′ : A} {l l′ : B} → Does x r l → Does x r′ l′ → (r ≡ r′) × (l ≡ l′)
+once p q = (p .answer ∙ sym (q .answer), p .left ∙ sym (q .left))

@@ -1,0 +1,1 @@
+// Laws that several proofs cite. This crate has no code.
