@@ -10,6 +10,8 @@ pub mod Records
 pub mod Coding
 pub mod Decoding
 pub mod Cue
+pub mod Reach
+pub mod Sent
 pub mod Printed
 pub mod Checks
 pub mod Cases

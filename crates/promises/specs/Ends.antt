@@ -1,0 +1,112 @@
+-- Demand 3, its first half: the two ends never part.
+-- From reset, with every octet decoded once and in order, its upper six bits (H1 H2 L1..L4) as sent: after each octet both bands are equal at both ends,
+-- whatever stands in the last two bits and whichever modes were told. Nothing is said of lost or repeated octets: after those the ends may part.
+-- Assumes nothing.
+use mathlib.Core.Path.{_≡_, refl, sym, ap, _∙_}
+use mathlib.Core.List.{List, [], _∷_, _++_, map, head-eq-of-cons-eq, tail-eq-of-cons-eq, nil≢cons, cons≢nil}
+use Prim.Native.Nat.{ℕ, zero, suc, _+_, _*_, _/_, _%_}
+use native.Mathlib.Omega.{arith}
+use lib.IntN.{ℤ, pos}
+use lib.ListN.{length, getD, take}
+use lib.Pow.{field, shr-shr}
+use lib.Seq.{take-nil, take-all}
+use Rattle.g722.specs.Tables.{qq4, wl}
+use Rattle.g722.specs.Words.{fromFour}
+use Rattle.g722.specs.Quantise.{inverse, invqal, logsc, logscl, scalel, lowFactors}
+use Rattle.g722.specs.Band.{nextBand, lowAfter, highAfter}
+use Rattle.g722.specs.Octet.{highWord, lowWord}
+use Rattle.g722.specs.Records.{resetCoder, resetDecoder}
+use Rattle.g722.specs.Coding.{ilOf, ihOf, octetOf, octetsOf, coderStep, coderAfter}
+use Rattle.g722.specs.Decoding.{decoderStep}
+use Rattle.g722.specs.Sent.{quantl-small, low-of-octet, high-of-octet}
+use Rattle.g722.specs.declared.Band.{Band}
+use Rattle.g722.specs.declared.Coder.{Coder}
+use Rattle.g722.specs.declared.Decoder.{Decoder}
+use Rattle.promises.specs.Sequences.{CodeInput, AllCoded, coderThrough, octetsThrough, allSamples, coder-as-one-run, octets-as-one-run, DecodeInput, AllDecoded, decoderThrough, Told, decoderRun, allTold, decoder-as-one-run}
+
+-- the upper six bits of an octet, and of each of a list
+abbrev pub upperSix : ℕ → ℕ
+upperSix o = o / 4
+
+-- the octets of a run
+abbrev pub received : List Told → List ℕ
+received ts = map (λ (t : Told). t .octet) ts
+
+-- both bands: predictors, log factors and scale factors
+pub record SameBands (c : Coder) (d : Decoder) : Type 0 where
+  pub low : c .low ≡ d .low
+  pub high : c .high ≡ d .high
+
+-- ---- the loop goes by the upper six bits alone
+
+pub low-by-four : (s : Band) (il ir : ℕ) → il / 4 ≡ ir / 4 → lowAfter s il ≡ lowAfter s ir
+unfolding lowAfter invqal lowFactors logscl
+low-by-four s il ir e =
+    ap (λ (w : ℕ). nextBand s (inverse qq4 (fromFour w) (s .factors .scale)) (record {
+      log = logsc (pos 18432) (getD wl (fromFour w .number) (pos 0)) (s .factors .log);
+      scale = scalel (logsc (pos 18432) (getD wl (fromFour w .number) (pos 0)) (s .factors .log));
+    })) e
+
+pub upper-low : (o r : ℕ) → upperSix o ≡ upperSix r → lowWord o / 4 ≡ lowWord r / 4
+upper-low o r e = field o 4 2 ∙ ap (λ (u : ℕ). u % 16) e ∙ sym (field r 4 2)
+
+pub upper-high : (o r : ℕ) → upperSix o ≡ upperSix r → highWord o ≡ highWord r
+upper-high o r e = sym (shr-shr o 2 4) ∙ ap (λ (u : ℕ). u / 16) e ∙ shr-shr r 2 4
+
+-- ---- the octet holds what the coder's loop used
+
+low-sent : (c : Coder) (x y : ℤ) → lowWord (octetOf c x y) ≡ ilOf c x y
+unfolding octetOf ilOf
+low-sent c x y = low-of-octet (ihOf c x y) (ilOf c x y) (quantl-small _ _)
+
+high-sent : (c : Coder) (x y : ℤ) → highWord (octetOf c x y) ≡ ihOf c x y
+unfolding octetOf ilOf
+high-sent c x y = high-of-octet (ihOf c x y) (ilOf c x y) (quantl-small _ _)
+
+-- one octet
+step : (c : Coder) (d : Decoder) (x y : ℤ) (t : Told) → SameBands c d → upperSix (octetOf c x y) ≡ upperSix (t .octet)
+    → SameBands (coderStep c x y) (decoderStep (t .mode) d (t .octet))
+unfolding coderStep decoderStep
+step c d x y t s e = record {
+  low = low-by-four (c .low) (ilOf c x y) (lowWord (t .octet)) (ap (λ (w : ℕ). w / 4) (sym (low-sent c x y)) ∙ upper-low (octetOf c x y) (t .octet) e) ∙ ap (λ (b : Band). lowAfter b (lowWord (t .octet))) (s .low);
+  high = ap (highAfter (c .high)) (sym (high-sent c x y) ∙ upper-high (octetOf c x y) (t .octet) e) ∙ ap (λ (b : Band). highAfter b (highWord (t .octet))) (s .high);
+}
+
+-- every prefix
+same-after : (c : Coder) (d : Decoder) (s : List ℤ) (ts : List Told) → SameBands c d → map upperSix (octetsOf c s) ≡ map upperSix (received ts)
+    → (n : ℕ) → SameBands (coderAfter c (take (2 * n) s)) (decoderRun d (take n ts))
+unfolding octetsOf coderAfter decoderRun
+same-after c d s ts b e zero = b
+same-after c d [] [] b e (suc n) = rw (take-nil (2 * suc n)) b
+same-after c d [] (t ∷ ts) b e (suc n) = absurd (nil≢cons e)
+same-after c d (x ∷ []) [] b e (suc n) = let k : 2 * suc n ≡ suc (suc (2 * n)) = omega arith in rw k b
+same-after c d (x ∷ []) (t ∷ ts) b e (suc n) = absurd (nil≢cons e)
+same-after c d (x ∷ y ∷ s) [] b e (suc n) = absurd (cons≢nil e)
+same-after c d (x ∷ y ∷ s) (t ∷ ts) b e (suc n) =
+    let k : 2 * suc n ≡ suc (suc (2 * n)) = omega arith in
+    rw k (same-after (coderStep c x y) (decoderStep (t .mode) d (t .octet)) s ts (step c d x y t b (head-eq-of-cons-eq e)) (tail-eq-of-cons-eq e) n)
+
+reset-same : SameBands resetCoder resetDecoder
+unfolding resetCoder resetDecoder
+reset-same = record { low = refl; high = refl }
+
+-- THE THEOREM. Any coding calls accepted from reset, any octets received with any modes in force, their upper six bits as sent:
+-- after the n-th octet, for every n, both bands are the same at both ends
+pub ends-equal : (ks : List CodeInput) → AllCoded resetCoder ks → (ts : List Told)
+    → map upperSix (octetsThrough resetCoder ks) ≡ map upperSix (received ts)
+    → (n : ℕ) → SameBands (coderAfter resetCoder (take (2 * n) (allSamples ks))) (decoderRun resetDecoder (take n ts))
+ends-equal ks a ts e n =
+    same-after resetCoder resetDecoder (allSamples ks) ts reset-same
+    (ap (λ (l : List ℕ). map upperSix l) (sym (octets-as-one-run resetCoder ks a)) ∙ e) n
+
+-- and so of the records that the calls give back, wherever the calls are cut
+pub records-equal : (ks : List CodeInput) → AllCoded resetCoder ks → (ds : List DecodeInput) → AllDecoded resetDecoder ds
+    → map upperSix (octetsThrough resetCoder ks) ≡ map upperSix (received (allTold ds))
+    → SameBands (coderThrough resetCoder ks) (decoderThrough resetDecoder ds)
+records-equal ks a ds b e =
+    let s = allSamples ks in
+    let ts = allTold ds in
+    let n = length s + length ts in
+    let h : SameBands (coderAfter resetCoder (take (2 * n) s)) (decoderRun resetDecoder (take n ts)) = ends-equal ks a ts e n in
+    rw (coder-as-one-run resetCoder ks a, decoder-as-one-run resetDecoder ds b)
+    (rw (take-all (2 * n) s (omega arith), take-all n ts (omega arith)) at h)
