@@ -12,6 +12,7 @@ pub mod Decoding
 pub mod Cue
 pub mod Reach
 pub mod Sent
+pub mod Upper
 pub mod Printed
 pub mod Checks
 pub mod Cases

@@ -4,29 +4,22 @@
 -- Assumes nothing.
 use mathlib.Core.Path.{_≡_, refl, sym, ap, _∙_}
 use mathlib.Core.List.{List, [], _∷_, _++_, map, head-eq-of-cons-eq, tail-eq-of-cons-eq, nil≢cons, cons≢nil}
-use Prim.Native.Nat.{ℕ, zero, suc, _+_, _*_, _/_, _%_}
+use Prim.Native.Nat.{ℕ, zero, suc, _+_, _*_, _/_}
 use native.Mathlib.Omega.{arith}
-use lib.IntN.{ℤ, pos}
-use lib.ListN.{length, getD, take}
-use lib.Pow.{field, shr-shr}
+use lib.IntN.{ℤ}
+use lib.ListN.{length, take}
 use lib.Seq.{take-nil, take-all}
-use Rattle.g722.specs.Tables.{qq4, wl}
-use Rattle.g722.specs.Words.{fromFour}
-use Rattle.g722.specs.Quantise.{inverse, invqal, logsc, logscl, scalel, lowFactors}
-use Rattle.g722.specs.Band.{nextBand, lowAfter, highAfter}
+use Rattle.g722.specs.Band.{lowAfter, highAfter}
 use Rattle.g722.specs.Octet.{highWord, lowWord}
 use Rattle.g722.specs.Records.{resetCoder, resetDecoder}
 use Rattle.g722.specs.Coding.{ilOf, ihOf, octetOf, octetsOf, coderStep, coderAfter}
 use Rattle.g722.specs.Decoding.{decoderStep}
 use Rattle.g722.specs.Sent.{quantl-small, low-of-octet, high-of-octet}
+use Rattle.g722.specs.Upper.{upperSix, low-by-four, upper-low, upper-high}
 use Rattle.g722.specs.declared.Band.{Band}
 use Rattle.g722.specs.declared.Coder.{Coder}
 use Rattle.g722.specs.declared.Decoder.{Decoder}
 use Rattle.promises.specs.Sequences.{CodeInput, AllCoded, coderThrough, octetsThrough, allSamples, coder-as-one-run, octets-as-one-run, DecodeInput, AllDecoded, decoderThrough, Told, decoderRun, allTold, decoder-as-one-run}
-
--- the upper six bits of an octet, and of each of a list
-abbrev pub upperSix : ℕ → ℕ
-upperSix o = o / 4
 
 -- the octets of a run
 abbrev pub received : List Told → List ℕ
@@ -36,22 +29,6 @@ received ts = map (λ (t : Told). t .octet) ts
 pub record SameBands (c : Coder) (d : Decoder) : Type 0 where
   pub low : c .low ≡ d .low
   pub high : c .high ≡ d .high
-
--- ---- the loop goes by the upper six bits alone
-
-pub low-by-four : (s : Band) (il ir : ℕ) → il / 4 ≡ ir / 4 → lowAfter s il ≡ lowAfter s ir
-unfolding lowAfter invqal lowFactors logscl
-low-by-four s il ir e =
-    ap (λ (w : ℕ). nextBand s (inverse qq4 (fromFour w) (s .factors .scale)) (record {
-      log = logsc (pos 18432) (getD wl (fromFour w .number) (pos 0)) (s .factors .log);
-      scale = scalel (logsc (pos 18432) (getD wl (fromFour w .number) (pos 0)) (s .factors .log));
-    })) e
-
-pub upper-low : (o r : ℕ) → upperSix o ≡ upperSix r → lowWord o / 4 ≡ lowWord r / 4
-upper-low o r e = field o 4 2 ∙ ap (λ (u : ℕ). u % 16) e ∙ sym (field r 4 2)
-
-pub upper-high : (o r : ℕ) → upperSix o ≡ upperSix r → highWord o ≡ highWord r
-upper-high o r e = sym (shr-shr o 2 4) ∙ ap (λ (u : ℕ). u / 16) e ∙ shr-shr r 2 4
 
 -- ---- the octet holds what the coder's loop used
 

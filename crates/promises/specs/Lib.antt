@@ -4,3 +4,4 @@ pub mod Good
 pub mod Sequences
 pub mod Ends
 pub mod Unheard
+pub mod Running

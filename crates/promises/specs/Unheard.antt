@@ -22,11 +22,11 @@ use Rattle.g722.specs.Coding.{misfit}
 use Rattle.g722.specs.Records.{goodDecoder}
 use Rattle.g722.specs.Decoding.{rlOf, rhOf, rlRow, rhRow, firstOf, secondOf, decoderStep, samplesOf, decoderAfter, notDecoded, decoded, decodeCall}
 use Rattle.g722.specs.Mirror.{accumc, accumd}
+use Rattle.g722.specs.Upper.{upperSix, low-by-four, upper-low, upper-high}
 use Rattle.g722.specs.declared.Band.{Band}
 use Rattle.g722.specs.declared.Decoder.{Decoder}
 use Rattle.g722.specs.declared.Decoded.{Decoded}
 use Rattle.promises.specs.Sequences.{DecodeInput, decoderThrough, samplesThrough}
-use Rattle.promises.specs.Ends.{upperSix, low-by-four, upper-low, upper-high}
 
 -- what is heard of an octet: all of it in mode 1, all but the last bit in mode 2, all but the last two in mode 3
 unfoldable pub heardBits : ℕ → ℕ → ℕ
