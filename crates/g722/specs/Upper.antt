@@ -28,4 +28,3 @@ upper-low o r e = field o 4 2 ∙ ap (λ (u : ℕ). u % 16) e ∙ sym (field r 4
 
 pub upper-high : (o r : ℕ) → upperSix o ≡ upperSix r → highWord o ≡ highWord r
 upper-high o r e = sym (shr-shr o 2 4) ∙ ap (λ (u : ℕ). u / 16) e ∙ shr-shr r 2 4
-

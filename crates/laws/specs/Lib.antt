@@ -6,3 +6,4 @@ pub mod Order
 pub mod Clamp
 pub mod Size
 pub mod Back
+pub mod Turns

@@ -14,3 +14,7 @@ pub record Does {A B : Type 0} (x : Outcome A B) (r : A) (l : B) : Type 0 where
 -- such a contract leaves one answer and one content
 pub once : {A B : Type 0} {x : Outcome A B} {r r′ : A} {l l′ : B} → Does x r l → Does x r′ l′ → (r ≡ r′) × (l ≡ l′)
 once p q = (p .answer ∙ sym (q .answer), p .left ∙ sym (q .left))
+
+-- by way of an equal outcome
+pub does : {A B : Type 0} {x y : Outcome A B} {r : A} {l : B} → x ≡ y → r ≡ y .answer → l ≡ y .left → Does x r l
+does e a l = record { answer = a ∙ (λ i. sym e i .answer); left = l ∙ (λ i. sym e i .left) }

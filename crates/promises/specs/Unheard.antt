@@ -55,7 +55,7 @@ heard-low mode o r det e =
     (λ t. let h : o ≡ r = rw t at e in rw (t, h))
     (λ t. by-test (eqb mode 2)
     (λ u. let h : o / 2 ≡ r / 2 = rw (t, u) at e in
-        rw (t, u) (ap (λ (w : ℕ). inverse qq5 (fromFive w) det) (field o 5 1 ∙ ap (λ (x : ℕ). x % 32) h ∙ sym (field r 5 1))))
+    rw (t, u) (ap (λ (w : ℕ). inverse qq5 (fromFive w) det) (field o 5 1 ∙ ap (λ (x : ℕ). x % 32) h ∙ sym (field r 5 1))))
     (λ u. let h : o / 4 ≡ r / 4 = rw (t, u) at e in rw (t, u) (ap (λ (w : ℕ). inverse qq4 (fromFour w) det) (upper-low o r h))))
 
 module _ (mode : ℕ) (d : Decoder) (o r : ℕ) (e : heardBits mode o ≡ heardBits mode r) where
@@ -111,7 +111,7 @@ call-unheard d told samples a = rw (length-same a, records-same d a, samples-sam
 pub data AlikeCalls : List DecodeInput → List DecodeInput → Type 0 where
   none : AlikeCalls [] []
   more : {told : ℕ} {os rs : List ℕ} {samples : List ℤ} {ks js : List DecodeInput} → Alike (inForce told) os rs → AlikeCalls ks js
-    → AlikeCalls (record { told = told; octets = os; samples = samples } ∷ ks) (record { told = told; octets = rs; samples = samples } ∷ js)
+      → AlikeCalls (record { told = told; octets = os; samples = samples } ∷ ks) (record { told = told; octets = rs; samples = samples } ∷ js)
 
 -- THE THEOREM, of any sequence of calls: from equal records the same samples and the same record, also where the mode changes between calls
 pub samples-unheard : {ks js : List DecodeInput} (d : Decoder) → AlikeCalls ks js → samplesThrough d ks ≡ samplesThrough d js

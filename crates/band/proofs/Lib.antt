@@ -1,0 +1,2 @@
+-- What the proofs of `band` share.
+pub mod Laws

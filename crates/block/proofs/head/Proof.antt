@@ -1,0 +1,11 @@
+use Rattle.block.proofs.head.Statement.{statement}
+use Rattle.block.proofs.head.Tie as tie
+
+returns : tie.Need-returns
+returns c = cc
+
+pub head-spec : {M : Type 1} → statement M
+head-spec =
+    tie.close
+    (tie.spec (λ c κs. tt) (λ c κs. tt) (λ c κs. tt) (λ c κs. tt) (λ c κs. tt) (λ c κs. tt) (λ c κs. tt) (λ c κs. tt) (λ c κs. tt) (λ c κs. tt)
+    returns)

@@ -1,0 +1,8 @@
+-- The logger's blocks: the check, the bytes and the two calls; then what follows from them.
+pub mod Check
+pub mod Layout
+pub mod Calls
+pub mod Xor
+pub mod Steps
+pub mod Round
+pub mod Changed

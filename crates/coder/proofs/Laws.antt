@@ -1,0 +1,154 @@
+-- Laws of the coder's step, run and call, on plain values.
+-- Assumes nothing.
+use mathlib.Core.Path.{_≡_, refl, sym, ap, _∙_}
+use mathlib.Core.Bool.{Bool, true, false, cond, not}
+use mathlib.Core.List.{List, [], _∷_, _++_, append-nil}
+use Prim.Native.Nat.{ℕ, zero, suc, _+_, _*_, _≤_, _<_}
+use native.Mathlib.Numerals.{add-one}
+use native.Mathlib.Omega.{arith}
+use borrow.Author.Tests.{lt-ltb, le-ltb, eq-eqb, ne-eqb}
+use lib.IntN.{ℤ, pos}
+use lib.ListN.{length, take, drop, getD, drop-of-length-le}
+use lib.Seq.{drop-cons, take-all}
+use Rattle.laws.specs.Order.{by-test, no}
+use Rattle.laws.specs.Outcome.{Outcome, Does}
+use Rattle.laws.specs.Turns.{drop-pair}
+use Rattle.g722.specs.Arithmetic.{sub}
+use Rattle.g722.specs.Band.{predic, nextBand, lowAfter, highAfter}
+use Rattle.g722.specs.Octet.{octet}
+use Rattle.g722.specs.Records.{inRange, allInRange, goodCoder}
+use Rattle.g722.specs.Coding.{window, ilOf, ihOf, octetOf, coderStep, octetsOf, coderAfter, firstBad, misfit, notCoded, coded, codeCall}
+use Rattle.g722.specs.declared.Factors.{Factors}
+use Rattle.g722.specs.declared.Band.{Band}
+use Rattle.g722.specs.declared.Coder.{Coder}
+use Rattle.g722.specs.declared.Coded.{Coded}
+use Rattle.band.specs.declared.Estimates.{Estimates}
+use Rattle.band.specs.Loop.{estimated, adapted, halves}
+use Rattle.mirror.specs.declared.Halves.{Halves}
+use Rattle.mirror.specs.Filters.{splitOf}
+use Rattle.coder.specs.declared.Word.{Word}
+use Rattle.coder.specs.declared.Sent.{Sent}
+use Rattle.coder.specs.Step.{lowCoded, highCoded, sentOf}
+
+-- ---- one band, low or high: its word and the band after it, step by step
+
+module _ (quant : ℤ → ℤ → ℕ) (inverse : ℕ → ℤ → ℤ) (factors : Factors → ℕ → Factors) (band : Band) (x : ℤ) where
+  abbrev word : ℕ
+  word = quant (sub x (predic band)) (band .factors .scale)
+
+  pub band-coded : {e : Estimates} {s scale x′ error d : ℤ} {w : ℕ} {f : Factors} {next : Band}
+      → e ≡ estimated band → s ≡ e .s → scale ≡ band .factors .scale → x′ ≡ x → error ≡ sub x′ s → w ≡ quant error scale
+      → d ≡ inverse w scale → f ≡ factors (band .factors) w → next ≡ adapted band e d f
+      → _≡_ {A = Word} (record { word = w; next = next })
+      (record { word = word; next = nextBand band (inverse word (band .factors .scale)) (factors (band .factors) word) })
+  unfolding estimated
+  band-coded e≡ s≡ scale≡ x≡ error≡ w≡ d≡ f≡ next≡ =
+      let error = error≡ ∙ λ i. sub (x≡ i) ((s≡ ∙ ap (λ (t : Estimates). t .s) e≡) i) in
+      let w = w≡ ∙ λ i. quant (error i) (scale≡ i) in
+      let d = d≡ ∙ λ i. inverse (w i) (scale≡ i) in
+      let f = f≡ ∙ λ i. factors (band .factors) (w i) in
+      let next = next≡ ∙ (λ i. adapted band (e≡ i) (d i) (f i)) ∙ halves band _ _ in
+      λ i. record { word = w i; next = next i }
+
+-- ---- one pair
+
+module _ (c : Coder) (x y : ℤ) where
+  pub pair-sent : {w : List ℤ} {hv : Halves} {l h : Word} {o : ℕ} {p : List ℤ}
+      → w ≡ c .past ++ (x ∷ y ∷ []) → hv ≡ splitOf w → l ≡ lowCoded (c .low) (hv .xl) → h ≡ highCoded (c .high) (hv .xh)
+      → o ≡ octet (h .word) (l .word) → p ≡ drop 2 w
+      → _≡_ {A = Sent} (record { octet = o; next = record { low = l .next; high = h .next; past = p } }) (sentOf c x y)
+  unfolding sentOf octetOf ilOf ihOf coderStep window splitOf lowCoded highCoded
+  pair-sent w≡ hv≡ l≡ h≡ o≡ p≡ =
+      let hv = hv≡ ∙ ap splitOf w≡ in
+      let l = l≡ ∙ λ i. lowCoded (c .low) (hv i .xl) in
+      let h = h≡ ∙ λ i. highCoded (c .high) (hv i .xh) in
+      let o = o≡ ∙ λ i. octet (h i .word) (l i .word) in
+      let p = p≡ ∙ ap (λ (t : List ℤ). drop 2 t) w≡ in
+      λ i. record { octet = o i; next = record { low = l i .next; high = h i .next; past = p i } }
+
+-- ---- the run
+
+module _ (c : Coder) (s : List ℤ) (i : ℕ) (h : 2 * i + 1 < length s) where
+  abbrev sent : Sent
+  sent = sentOf c (getD s (2 * i) (pos 0)) (getD s (2 * i + 1) (pos 0))
+
+  pub record-turn : coderAfter c (drop (2 * i) s) ≡ coderAfter (sent .next) (drop (2 * (i + 1)) s)
+  unfolding coderAfter sentOf
+  record-turn = ap (coderAfter c) (drop-pair s i (pos 0) h)
+
+  pub octets-turn : octetsOf c (drop (2 * i) s) ≡ sent .octet ∷ octetsOf (sent .next) (drop (2 * (i + 1)) s)
+  unfolding octetsOf sentOf
+  octets-turn = ap (octetsOf c) (drop-pair s i (pos 0) h)
+
+module _ (c : Coder) (s : List ℤ) (n : ℕ) (h : length s ≤ n) where
+  pub record-end : coderAfter c (drop n s) ≡ c
+  unfolding coderAfter
+  record-end = ap (coderAfter c) (drop-of-length-le s h)
+
+  pub octets-end : (o : List ℕ) (i : ℕ) → length o ≤ i → take i o ++ octetsOf c (drop n s) ≡ o
+  unfolding octetsOf
+  octets-end o i k = ap (λ (l : List ℤ). take i o ++ octetsOf c l) (drop-of-length-le s h) ∙ append-nil (take i o) ∙ take-all i o k
+
+-- ---- the first bad sample
+
+module _ (s : List ℤ) (i : ℕ) (h : i < length s) where
+  bad-here : firstBad (drop i s) ≡ cond (inRange (getD s i (pos 0))) (suc (firstBad (drop (suc i) s))) zero
+  unfolding firstBad
+  bad-here = ap firstBad (drop-cons s i (pos 0) h)
+
+  pub bad-on : inRange (getD s i (pos 0)) ≡ true → (i + 1) + firstBad (drop (i + 1) s) ≡ i + firstBad (drop i s)
+  bad-on e =
+      let k : firstBad (drop i s) ≡ suc (firstBad (drop (suc i) s)) = bad-here ∙ rw e in
+      rw (add-one i) (omega arith)
+
+  pub bad-stop : inRange (getD s i (pos 0)) ≡ false → i ≡ i + firstBad (drop i s)
+  bad-stop e =
+      let k : firstBad (drop i s) ≡ zero = bad-here ∙ rw e in
+      omega arith
+
+pub bad-end : (s : List ℤ) (i : ℕ) → length s ≤ i → i ≡ i + firstBad (drop i s)
+unfolding firstBad
+bad-end s i k = let e : firstBad (drop i s) ≡ zero = ap firstBad (drop-of-length-le s k) in omega arith
+
+-- what the pass over all samples says of the first bad one
+pub none-bad : (s : List ℤ) → allInRange s ≡ true → length s ≤ firstBad s
+unfolding allInRange firstBad
+none-bad [] e = omega arith
+none-bad (x ∷ rest) e =
+    by-test (inRange x)
+    (λ t. let k : allInRange rest ≡ true = rw t at e in rw t (let l = none-bad rest k in omega arith))
+    (λ t. no (sym (rw t at e)))
+
+pub some-bad : (s : List ℤ) → allInRange s ≡ false → firstBad s < length s
+unfolding allInRange firstBad
+some-bad [] e = no e
+some-bad (x ∷ rest) e =
+    by-test (inRange x)
+    (λ t. let k : allInRange rest ≡ false = rw t at e in rw t (let l = some-bad rest k in omega arith))
+    (λ t. rw t (omega arith))
+
+-- ---- the call, case by case
+
+module _ (c : Coder) (s : List ℤ) (o : List ℕ) where
+  pub call-long : 8000 < length o → codeCall c s o ≡ notCoded 3 0 c o
+  unfolding codeCall misfit
+  call-long h = simp (lt-ltb _ _ h)
+
+  module _ (h : length o ≤ 8000) where
+    pub call-uneven : (length s ≡ 2 * length o → ⊥) → codeCall c s o ≡ notCoded 3 0 c o
+    unfolding codeCall misfit
+    call-uneven k = simp (le-ltb _ _ h, ne-eqb _ _ k)
+
+    module _ (k : length s ≡ 2 * length o) where
+      pub call-broken : goodCoder c ≡ false → codeCall c s o ≡ notCoded 2 0 c o
+      unfolding codeCall misfit
+      call-broken g = simp (le-ltb _ _ h, eq-eqb _ _ k, g)
+
+      module _ (g : goodCoder c ≡ true) where
+        pub call-bad : firstBad s < length s → codeCall c s o ≡ notCoded 4 (firstBad s) c o
+        unfolding codeCall misfit
+        call-bad b = simp (le-ltb _ _ h, eq-eqb _ _ k, g, lt-ltb _ _ b)
+
+        pub call-done : length s ≤ firstBad s → codeCall c s o ≡ coded c s
+        unfolding codeCall misfit
+        call-done b = simp (le-ltb _ _ h, eq-eqb _ _ k, g, le-ltb _ _ b)

@@ -1,0 +1,116 @@
+// The coding call: samples to octets, with every refusal of document 01.
+mod pair;
+
+ghost use mathlib.Core.Path.{_≡_};
+ghost use Prim.Native.Nat.{_*_};
+ghost use lib.ListN.{length};
+ghost use Rattle.laws.specs.Outcome.{Outcome, Does};
+ghost use Rattle.g722.specs.Records.{resetCoder, goodCoder};
+ghost use Rattle.g722.specs.Coding.{octetsOf, coderAfter, firstBad, codeCall};
+ghost use Rattle.coder.specs.Step.{runOf};
+use g722::Band;
+use g722::Coded;
+use g722::Coder;
+pub use pair::high_coded;
+pub use pair::low_coded;
+pub use pair::step;
+use records::all_in_range;
+use records::both;
+use records::good_high;
+use records::good_low;
+use records::in_range;
+use records::reset_band;
+
+// A band's code word, and the band after it.
+pub struct Word {
+    pub word: u8,
+    pub next: Band,
+}
+
+// An octet, and the coder after it.
+pub struct Sent {
+    pub octet: u8,
+    pub next: Coder,
+}
+
+// The record from which both ends start.
+pub fn reset() -> Coder
+    ensures { λ r. ⌜ r ≡ resetCoder ⌝ }
+{
+    Coder {
+        low: reset_band(32),
+        high: reset_band(8),
+        past: [0; 22],
+    }
+}
+
+// Whether a record keeps its bounds.
+pub fn good_coder(c: Coder) -> bool
+    ensures { λ r. ⌜ r ≡ goodCoder c ⌝ }
+{
+    let low = c.low;
+    let high = c.high;
+    let past = c.past;
+    both(both(good_low(low), good_high(high)), all_in_range(&past))
+}
+
+// The index of the first sample out of range, or the length where there is none.
+pub fn first_bad(samples: &[i16]) -> usize
+    ensures { λ r. ⌜ r ≡ firstBad (now (samples .entry)) ⌝ }
+{
+    let mut i: usize = 0;
+    while i < samples.len() {
+        if !in_range(samples[i]) {
+            return i;
+        }
+        i += 1;
+    }
+    i
+}
+
+// Codes pair after pair.
+fn run(c: Coder, samples: &[i16], octets: &mut [u8]) -> Coder
+    requires { ⌜ length (now samples) ≡ 2 * length (now octets) ⌝ }
+    ensures { λ r. ⌜ Does (runOf c (now (samples .entry))) r (now (octets .exit)) ⌝ }
+{
+    let mut s = c;
+    let mut i: usize = 0;
+    while i < octets.len() {
+        let t = step(s, samples[2 * i], samples[2 * i + 1]);
+        octets[i] = t.octet;
+        s = t.next;
+        i += 1;
+    }
+    s
+}
+
+// The answer of a call.
+fn answer(number: u8, index: usize, c: Coder) -> Coded
+    ensures { λ r. ⌜ r ≡ record { number = number; index = index; next = c } ⌝ }
+{
+    Coded {
+        number: number,
+        index: index,
+        next: c,
+    }
+}
+
+// A coding call: 2n samples to n octets, n at most 8000. All samples are looked at before the first is coded.
+pub fn code(c: Coder, samples: &[i16], octets: &mut [u8]) -> Coded
+    ensures { λ r. ⌜ Does (codeCall c (now (samples .entry)) (now (octets .entry))) r (now (octets .exit)) ⌝ }
+{
+    let n = octets.len();
+    if 8000 < n {
+        return answer(3, 0, c);
+    }
+    if samples.len() != 2 * n {
+        return answer(3, 0, c);
+    }
+    if !good_coder(c) {
+        return answer(2, 0, c);
+    }
+    if !all_in_range(samples) {
+        return answer(4, first_bad(samples), c);
+    }
+    answer(0, 0, run(c, samples, octets))
+}

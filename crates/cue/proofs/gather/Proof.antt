@@ -1,0 +1,55 @@
+-- `cue::gather` meets its contract. The loop's invariant: the bytes done, and those that the bits to come spell, are the whole.
+use mathlib.Core.Path.{_≡_, refl, sym, _∙_}
+use mathlib.Core.List.{_++_}
+use Prim.Native.Nat.{_*_, _-_, _≤_}
+use native.Mathlib.Nat.{sub-zero}
+use native.Mathlib.Omega.{arith}
+use lib.ListN.{length, take, drop, length-set}
+use Rattle.g722.specs.Cue.{bitsOf, bytesOf}
+use Rattle.cue.proofs.Laws.{gather-turn, gather-end}
+use Rattle.cue.proofs.gather.Statement.{statement}
+use Rattle.cue.proofs.gather.Tie as tie
+
+abbrev Inv-loop : tie.InvT-loop
+Inv-loop octets bytes₀ k j₀ bytes j =
+    (length bytes ≡ length bytes₀)
+    × (take j bytes ++ bytesOf (length bytes₀ - j) (drop (8 * j) (bitsOf k octets)) ≡ bytesOf (length bytes₀) (bitsOf k octets))
+
+abbrev μ-loop : tie.MeasureT-loop
+μ-loop octets bytes₀ k j₀ bytes j = length bytes₀ - j
+
+loop-holds : tie.Need-loop-holds Inv-loop μ-loop
+loop-holds c = (refl, rw (sub-zero (length (c .before .before .args .bytes .now))))
+
+loop-again : tie.Need-loop-again Inv-loop μ-loop
+loop-again c =
+    let l = c .before .before in
+    let a = l .before .before .before .args in
+    let b = l .loop .bytes in
+    let j = l .loop .j in
+    (length-set b j _ ∙ l .loop .inv .0, gather-turn j (length (a .bytes .now)) _ b (bitsOf (a .k) (a .octets .now)) (omega arith) (omega arith) (c .spell .ensures .0) ∙ l .loop .inv .1)
+
+same-length : tie.Need-same-length Inv-loop μ-loop
+same-length c = c .before .loop .inv .0
+
+returns : tie.Need-returns Inv-loop μ-loop
+returns c =
+    let l = c .before in
+    let a = l .before .before .before .args in
+    sym (gather-end (l .loop .j) (length (a .bytes .now)) (8 * l .loop .j) (l .loop .bytes) (bitsOf (a .k) (a .octets .now)) (omega arith) (omega arith)) ∙ l .loop .inv .1
+
+pub gather-spec : {M : Type 1} → statement M
+gather-spec =
+    tie.close
+    (tie.spec
+    Inv-loop
+    μ-loop
+    loop-holds
+    (λ c. omega arith)
+    (λ c κs. omega arith)
+    (λ c. omega arith)
+    (λ c. omega arith)
+    (λ c. omega arith)
+    loop-again
+    same-length
+    returns)

@@ -1,0 +1,13 @@
+-- What the two mirror filters answer: XL and XH of a window of 24 samples, XOUT1 and XOUT2 of twelve pairs.
+-- Assumes nothing.
+use mathlib.Core.List.{List}
+use lib.IntN.{ℤ}
+use Rattle.g722.specs.Mirror.{lowt, hight, accumc, accumd}
+use Rattle.mirror.specs.declared.Halves.{Halves}
+use Rattle.mirror.specs.declared.Joined.{Joined}
+
+unfoldable pub splitOf : List ℤ → Halves
+splitOf x = record { xl = lowt x; xh = hight x }
+
+unfoldable pub joinOf : List ℤ → List ℤ → Joined
+joinOf rl rh = record { first = accumc rl rh; second = accumd rl rh }

@@ -1,0 +1,2 @@
+-- The answers of the two mirror filters.
+pub mod Filters

@@ -1,0 +1,3 @@
+-- Laws that several of this crate's proofs cite.
+pub mod Laws
+pub mod Counting

@@ -1,0 +1,12 @@
+use mir.Facts.{toZ-ofZ}
+use Rattle.laws.specs.Back.{got16}
+use Rattle.g722.specs.Quantise.{logsch}
+use Rattle.quant.proofs.factors.logsch.Statement.{statement}
+use Rattle.quant.proofs.factors.logsch.Tie as tie
+
+returns : tie.Need-returns
+unfolding logsch
+returns c = cc (got16 (c .logsc), got16 (c .before .wh-at), toZ-ofZ (c .before .before .before .fits .nbh))
+
+pub logsch-spec : {M : Type 1} → statement M
+logsch-spec = tie.close (tie.spec (λ c κs. tt) (λ c κs. tt) (λ c κs. tt) returns)

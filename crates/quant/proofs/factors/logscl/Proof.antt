@@ -1,0 +1,12 @@
+use mir.Facts.{toZ-ofZ}
+use Rattle.laws.specs.Back.{got16}
+use Rattle.g722.specs.Quantise.{logscl}
+use Rattle.quant.proofs.factors.logscl.Statement.{statement}
+use Rattle.quant.proofs.factors.logscl.Tie as tie
+
+returns : tie.Need-returns
+unfolding logscl
+returns c = cc (got16 (c .logsc), got16 (c .before .wl-at), toZ-ofZ (c .before .before .before .fits .nbl))
+
+pub logscl-spec : {M : Type 1} → statement M
+logscl-spec = tie.close (tie.spec (λ c κs. tt) (λ c κs. tt) (λ c κs. tt) returns)

@@ -1,0 +1,13 @@
+use borrow.Author.Needs.{needs}
+use mir.Facts.{toZ-ofZ}
+use Rattle.laws.specs.Back.{got16}
+use Rattle.g722.specs.Quantise.{scaleh}
+use Rattle.quant.proofs.factors.scaleh.Statement.{statement}
+use Rattle.quant.proofs.factors.scaleh.Tie as tie
+
+returns : tie.Need-returns
+unfolding scaleh
+returns c = cc (got16 (c .scale-at), toZ-ofZ (c .before .before .fits .nbph))
+
+pub scaleh-spec : {M : Type 1} → statement M
+scaleh-spec = tie.close (tie.spec (λ c κs. tt) (λ c. search needs) (λ c κs. tt) returns)

@@ -1,0 +1,13 @@
+use borrow.Author.Needs.{needs}
+use mir.Facts.{toZ-ofZ}
+use Rattle.laws.specs.Back.{got16}
+use Rattle.g722.specs.Quantise.{scalel}
+use Rattle.quant.proofs.factors.scalel.Statement.{statement}
+use Rattle.quant.proofs.factors.scalel.Tie as tie
+
+returns : tie.Need-returns
+unfolding scalel
+returns c = cc (got16 (c .scale-at), toZ-ofZ (c .before .before .fits .nbpl))
+
+pub scalel-spec : {M : Type 1} → statement M
+scalel-spec = tie.close (tie.spec (λ c κs. tt) (λ c. search needs) (λ c. search needs) (λ c κs. tt) returns)

@@ -1,0 +1,35 @@
+use native.Mathlib.Omega.{arith}
+use borrow.Author.Tests.{eq-eqb, ne-eqb}
+use mir.Facts.{toZ-ofZ}
+use Rattle.laws.specs.Back.{got16}
+use Rattle.g722.specs.Quantise.{inverse, invqal, invqbl}
+use Rattle.tables.specs.Entries.{qq6-small, qq5-small}
+use Rattle.quant.proofs.inverse.invqbl.Statement.{statement}
+use Rattle.quant.proofs.inverse.invqbl.Tie as tie
+
+inverse-requires : tie.Need-inverse-requires
+inverse-requires c κs = rw (c .qq6-at .ensures) (qq6-small (c .before .from-six .result .number))
+
+inverse-requires-2 : tie.Need-inverse-requires-2
+inverse-requires-2 c κs = rw (c .qq5-at .ensures) (qq5-small (c .before .from-five .result .number))
+
+returns : tie.Need-returns
+unfolding inverse invqbl
+returns c =
+    let s = c .before .before .before .before in
+    simp (eq-eqb (s .args .mode) 1 (omega arith)) (cc (got16 (c .inverse), toZ-ofZ (s .fits .detl)))
+
+returns-2 : tie.Need-returns-2
+unfolding inverse invqbl
+returns-2 c =
+    let s = c .before .before .before .before .before in
+    simp (ne-eqb (s .args .mode) 1 (omega arith), eq-eqb (s .args .mode) 2 (omega arith)) (cc (got16 (c .inverse2), toZ-ofZ (s .fits .detl)))
+
+returns-3 : tie.Need-returns-3
+unfolding invqal invqbl
+returns-3 c =
+    let s = c .before .before .before in
+    simp (ne-eqb (s .args .mode) 1 (omega arith), ne-eqb (s .args .mode) 2 (omega arith)) (cc (got16 (c .invqal), toZ-ofZ (s .fits .detl)))
+
+pub invqbl-spec : {M : Type 1} → statement M
+invqbl-spec = tie.close (tie.spec (λ c κs. tt) (λ c κs. tt) inverse-requires returns (λ c κs. tt) (λ c κs. tt) inverse-requires-2 returns-2 (λ c κs. tt) returns-3)

@@ -1,0 +1,101 @@
+// The bounds of records and of samples: document 01, "State and its bounds".
+ghost use mathlib.Core.Path.{_≡_};
+ghost use mathlib.Core.Bool.{_&&_};
+ghost use Rattle.g722.specs.Records.{inRange, allInRange, goodPoles, goodLow, goodHigh, resetBand};
+use arith::equal;
+use arith::sub;
+use arith::within;
+use g722::Band;
+use g722::Factors;
+use g722::Poles;
+use g722::Zeros;
+use quant::scaleh;
+use quant::scalel;
+
+// Whether both hold.
+pub fn both(a: bool, b: bool) -> bool
+    ensures { λ r. ⌜ r ≡ (a && b) ⌝ }
+{
+    if a {
+        return b;
+    }
+    false
+}
+
+// Whether x lies in the range of samples and sub-band signals.
+pub fn in_range(x: i16) -> bool
+    ensures { λ r. ⌜ r ≡ inRange x ⌝ }
+{
+    within(-16384, 16383, x)
+}
+
+// Whether all do, by one pass without a branch.
+pub fn all_in_range(xs: &[i16]) -> bool
+    ensures { λ r. ⌜ r ≡ allInRange (now (xs .entry)) ⌝ }
+{
+    let mut ok = true;
+    let mut i: usize = 0;
+    while i < xs.len() {
+        ok = both(ok, in_range(xs[i]));
+        i += 1;
+    }
+    ok
+}
+
+// Whether both pole coefficients lie within their bounds.
+pub fn good_poles(s: Poles) -> bool
+    ensures { λ r. ⌜ r ≡ goodPoles s ⌝ }
+{
+    let a1 = s.a1;
+    let a2 = s.a2;
+    let reach = sub(15360, a2);
+    both(within(-12288, 12288, a2), within(sub(0, reach), reach, a1))
+}
+
+// Whether a low band keeps its bounds.
+pub fn good_low(s: Band) -> bool
+    ensures { λ r. ⌜ r ≡ goodLow s ⌝ }
+{
+    let poles = s.poles;
+    let f = s.factors;
+    both(
+        good_poles(poles),
+        both(within(0, 18432, f.log), equal(f.scale, scalel(f.log))),
+    )
+}
+
+// Whether a high band does.
+pub fn good_high(s: Band) -> bool
+    ensures { λ r. ⌜ r ≡ goodHigh s ⌝ }
+{
+    let poles = s.poles;
+    let f = s.factors;
+    both(
+        good_poles(poles),
+        both(within(0, 22528, f.log), equal(f.scale, scaleh(f.log))),
+    )
+}
+
+// A band at reset, with its least scale factor.
+pub fn reset_band(scale: i16) -> Band
+    ensures { λ r. ⌜ r ≡ resetBand scale ⌝ }
+{
+    Band {
+        zeros: Zeros {
+            b: [0; 6],
+            d: [0; 6],
+        },
+        poles: Poles {
+            a1: 0,
+            a2: 0,
+            r1: 0,
+            r2: 0,
+            p1: 0,
+            p2: 0,
+        },
+        factors: Factors {
+            log: 0,
+            scale: scale,
+        },
+    }
+}

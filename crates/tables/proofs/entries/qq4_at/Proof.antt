@@ -1,0 +1,18 @@
+use mathlib.Core.Path.{refl}
+use native.Mathlib.Omega.{arith}
+use borrow.Author.Needs.{needs}
+use Rattle.g722.specs.Tables.{qq4}
+use Rattle.tables.specs.Entries.{above-table}
+use Rattle.tables.proofs.entries.qq4_at.Statement.{statement}
+use Rattle.tables.proofs.entries.qq4_at.Tie as tie
+
+returns : tie.Need-returns
+unfolding qq4
+returns c = refl
+
+returns-2 : tie.Need-returns-2
+unfolding qq4
+returns-2 c = above-table qq4 0 (c .before .args .k) (omega arith)
+
+pub qq4-at-spec : {M : Type 1} → statement M
+qq4-at-spec = tie.close (tie.spec (λ c. search needs) (λ c. search needs) returns returns-2)

@@ -1,0 +1,2 @@
+-- How large the entries of the tables are.
+pub mod Entries
