@@ -5,3 +5,4 @@ pub mod Sequences
 pub mod Ends
 pub mod Unheard
 pub mod Running
+pub mod Unique
