@@ -1,0 +1,152 @@
+//! The second codec's programs: encode, decode, listing, material, tells.
+
+use second::material::{self, Stream};
+use second::{compare, listing, wrong, Coder, Decoder, Refusal, Wrong, MOST_OCTETS};
+use std::io::{self, Read, Write};
+use std::process::ExitCode;
+
+/// How a program ends that did not do all it was asked.
+enum Fault {
+    Refused(Refusal),
+    Usage,
+    Broken(io::Error),
+}
+
+impl From<Refusal> for Fault {
+    fn from(refusal: Refusal) -> Fault {
+        Fault::Refused(refusal)
+    }
+}
+
+impl From<io::Error> for Fault {
+    fn from(error: io::Error) -> Fault {
+        Fault::Broken(error)
+    }
+}
+
+const USAGE: &str = "\
+second encode [WRONG]            samples (two bytes, high first) to octets
+second decode MODE [WRONG]       octets to samples, mode 0 to 3
+second listing                   a recording to its lines
+second material KIND SEED N      N samples or octets
+second tells SEED                which material tells which wrong variant";
+
+/// Fills the buffer from standard input as far as the input goes.
+fn piece(most: usize) -> io::Result<Vec<u8>> {
+    let mut bytes = Vec::with_capacity(most);
+    io::stdin().lock().take(most as u64).read_to_end(&mut bytes)?;
+    Ok(bytes)
+}
+
+/// Samples as bytes, the high byte first.
+fn bytes_of(samples: &[i16]) -> Vec<u8> {
+    samples.iter().flat_map(|sample| sample.to_be_bytes()).collect()
+}
+
+/// The wrong variant named, or none.
+fn variant(name: Option<&String>) -> Result<Wrong, Fault> {
+    name.map_or(Ok(Wrong::None), |name| wrong::by_name(name).ok_or(Fault::Usage))
+}
+
+/// Codes standard input in calls of 8000 octets from reset.
+fn encode(wrong: Wrong) -> Result<(), Fault> {
+    let mut coder = Coder::new(wrong);
+    let mut before = 0;
+    loop {
+        let bytes = piece(4 * MOST_OCTETS)?;
+        let whole = &bytes[..bytes.len() / 4 * 4];
+        let samples: Vec<i16> =
+            whole.chunks(2).map(|pair| i16::from_be_bytes([pair[0], pair[1]])).collect();
+        let mut octets = vec![0; samples.len() / 2];
+        coder
+            .encode(&samples, &mut octets)
+            .map_err(|refusal| Refusal { index: refusal.index + before, ..refusal })?;
+        io::stdout().write_all(&octets)?;
+        if whole.len() < bytes.len() {
+            return Err(Refusal { number: 3, index: 0 }.into());
+        }
+        if bytes.len() < 4 * MOST_OCTETS {
+            return Ok(());
+        }
+        before += samples.len();
+    }
+}
+
+/// Decodes standard input in calls of 8000 octets from reset.
+fn decode(mode: &str, wrong: Wrong) -> Result<(), Fault> {
+    let mode = ["0", "1", "2", "3"].iter().position(|text| *text == mode);
+    let mode = mode.ok_or(Refusal { number: 1, index: 0 })?;
+    let mut decoder = Decoder::new(wrong);
+    loop {
+        let octets = piece(MOST_OCTETS)?;
+        let mut samples = vec![0; 2 * octets.len()];
+        decoder.decode(mode as u8, &octets, &mut samples)?;
+        io::stdout().write_all(&bytes_of(&samples))?;
+        if octets.len() < MOST_OCTETS {
+            return Ok(());
+        }
+    }
+}
+
+/// Lists the recording on standard input.
+fn list() -> Result<(), Fault> {
+    let mut recording = Vec::new();
+    io::stdin().read_to_end(&mut recording)?;
+    io::stdout().write_all(listing::listing(&recording, Wrong::None).as_bytes())?;
+    Ok(())
+}
+
+/// Writes material of a kind.
+fn write_material(kind: &str, seed: &str, n: &str) -> Result<(), Fault> {
+    let kind = material::by_name(kind).ok_or(Fault::Usage)?;
+    let seed = seed.parse().map_err(|_| Fault::Usage)?;
+    let n = n.parse().map_err(|_| Fault::Usage)?;
+    let bytes = match material::stream(kind, seed, n) {
+        Stream::Samples(samples) => bytes_of(&samples),
+        Stream::Octets(octets) => octets,
+    };
+    io::stdout().write_all(&bytes)?;
+    Ok(())
+}
+
+/// Prints for each wrong variant the kinds that tell it, with the first octet
+/// (coder) or sample (decoder in modes 1, 2, 3 and changing) that differs.
+fn tells(seed: &str) -> Result<(), Fault> {
+    let material = material::material(seed.parse().map_err(|_| Fault::Usage)?);
+    let place = |at: Option<usize>| at.map_or("-".to_string(), |at| at.to_string());
+    for wrong in wrong::ALL {
+        for (kind, stream) in &material {
+            let told = compare::compare(stream, wrong);
+            if told.apart() {
+                let decoder: Vec<String> = told.decoder.into_iter().map(place).collect();
+                let coder = place(told.coder);
+                println!("{wrong:?} {kind:?} coder {coder} decoder {}", decoder.join(" "));
+            }
+        }
+    }
+    Ok(())
+}
+
+/// Runs the program that the arguments name.
+fn run(words: &[String]) -> Result<(), Fault> {
+    let texts: Vec<&str> = words.iter().map(String::as_str).collect();
+    match texts[..] {
+        ["encode"] | ["encode", _] => encode(variant(words.get(1))?),
+        ["decode", mode] | ["decode", mode, _] => decode(mode, variant(words.get(2))?),
+        ["listing"] => list(),
+        ["material", kind, seed, n] => write_material(kind, seed, n),
+        ["tells", seed] => tells(seed),
+        _ => Err(Fault::Usage),
+    }
+}
+
+fn main() -> ExitCode {
+    let words: Vec<String> = std::env::args().skip(1).collect();
+    match run(&words) {
+        Ok(()) => return ExitCode::SUCCESS,
+        Err(Fault::Refused(refusal)) => eprintln!("refused {} {}", refusal.number, refusal.index),
+        Err(Fault::Usage) => eprintln!("{USAGE}"),
+        Err(Fault::Broken(error)) => eprintln!("{error}"),
+    }
+    ExitCode::FAILURE
+}

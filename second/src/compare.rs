@@ -1,0 +1,72 @@
+//! Which material tells a wrong codec from the right one.
+
+use crate::material::Stream;
+use crate::{Coder, Decoder, Wrong, MOST_OCTETS};
+
+/// Where a wrong codec first answers otherwise.
+#[derive(Clone, Copy, Debug, PartialEq, Eq, Default)]
+pub struct Told {
+    /// The first octet in which the coders differ.
+    pub coder: Option<usize>,
+    /// The first sample in which the decoders differ, in modes 1, 2 and 3 and
+    /// with the mode changing from call to call.
+    pub decoder: [Option<usize>; 4],
+}
+
+impl Told {
+    /// Whether anything differs.
+    pub fn apart(&self) -> bool {
+        self.coder.is_some() || self.decoder.iter().any(Option::is_some)
+    }
+}
+
+/// All octets of the samples, from reset. An odd last sample is left out.
+pub fn encode_all(samples: &[i16], wrong: Wrong) -> Vec<u8> {
+    let mut coder = Coder::new(wrong);
+    let mut all = Vec::new();
+    for piece in samples[..samples.len() / 2 * 2].chunks(2 * MOST_OCTETS) {
+        let mut octets = vec![0; piece.len() / 2];
+        coder.encode(piece, &mut octets).expect("material is in range");
+        all.append(&mut octets);
+    }
+    all
+}
+
+/// All samples of the octets, from reset, the modes taken in turn by the calls
+/// of `call` octets each.
+pub fn decode_all(octets: &[u8], modes: &[u8], call: usize, wrong: Wrong) -> Vec<i16> {
+    let mut decoder = Decoder::new(wrong);
+    let mut all = Vec::new();
+    for (mode, piece) in modes.iter().cycle().zip(octets.chunks(call)) {
+        let mut samples = vec![0; 2 * piece.len()];
+        decoder.decode(*mode, piece, &mut samples).expect("the modes are 0 to 3");
+        all.append(&mut samples);
+    }
+    all
+}
+
+/// The first place where two answers differ.
+fn first_difference<T: PartialEq>(one: &[T], other: &[T]) -> Option<usize> {
+    one.iter().zip(other).position(|(a, b)| a != b)
+}
+
+/// Compares the wrong codec with the right one. A stream of samples is coded
+/// by both; what the right coder sends, or the octets given, both decode.
+pub fn compare(stream: &Stream, wrong: Wrong) -> Told {
+    let mut told = Told::default();
+    let octets = match stream {
+        Stream::Octets(octets) => octets.clone(),
+        Stream::Samples(samples) => {
+            let right = encode_all(samples, Wrong::None);
+            told.coder = first_difference(&right, &encode_all(samples, wrong));
+            right
+        }
+    };
+    let ways: [(&[u8], usize); 4] = [(&[1], 8000), (&[2], 8000), (&[3], 8000), (&[0, 3, 2], 37)];
+    for (place, (modes, call)) in ways.into_iter().enumerate() {
+        let right = decode_all(&octets, modes, call, Wrong::None);
+        let other = decode_all(&octets, modes, call, wrong);
+        told.decoder[place] = first_difference(&right, &other);
+    }
+    told
+}

@@ -1,0 +1,90 @@
+//! The decoder: the two sub-band decoders and the receive filter.
+
+use crate::arith::{add, limit};
+use crate::band::Band;
+use crate::filters::Receive;
+use crate::quantiser::{invqah, invqal, invqbl, logsch, logscl, scaleh, scalel};
+use crate::{mode_in_force, refused, Refusal, Wrong, MOST_OCTETS};
+
+/// A decoder and everything it has been given since reset.
+#[derive(Clone, Debug)]
+pub struct Decoder {
+    wrong: Wrong,
+    receive: Receive,
+    low: Band,
+    high: Band,
+    /// The mode of the last call (only a wrong decoder asks for it).
+    last_mode: u8,
+}
+
+impl Decoder {
+    /// A decoder at reset.
+    pub fn new(wrong: Wrong) -> Decoder {
+        let receive = Receive::reset(wrong);
+        let (low, high) = (Band::reset(32, wrong), Band::reset(8, wrong));
+        Decoder { wrong, receive, low, high, last_mode: 1 }
+    }
+
+    /// The low and the high band.
+    pub fn bands(&self) -> [&Band; 2] {
+        [&self.low, &self.high]
+    }
+
+    /// The heard signal of a band: limited, while the loop keeps its own.
+    fn heard(&self, y: i32) -> i32 {
+        if self.wrong == Wrong::HeardUnlimited {
+            return y;
+        }
+        limit(y)
+    }
+
+    /// The low sub-band decoder: RL of the received word in the mode.
+    pub fn decode_low(&mut self, ilr: u8, mode: u8) -> i32 {
+        let said = self.low.predic();
+        let dl = invqbl(ilr, self.low.scale, mode, self.wrong);
+        let yl = add(said.s, dl);
+        let dlt = invqal(ilr, self.low.scale, self.wrong);
+        self.low.adapt(said, dlt);
+        self.low.log_factor = logscl(ilr, self.low.log_factor, self.wrong);
+        self.low.scale = scalel(self.low.log_factor);
+        self.heard(yl)
+    }
+
+    /// The high sub-band decoder: RH of the received word.
+    pub fn decode_high(&mut self, ih: u8) -> i32 {
+        let said = self.high.predic();
+        let dh = invqah(ih, self.high.scale, self.wrong);
+        let yh = add(said.s, dh);
+        self.high.adapt(said, dh);
+        self.high.log_factor = logsch(ih, self.high.log_factor, self.wrong);
+        self.high.scale = scaleh(self.high.log_factor);
+        self.heard(yh)
+    }
+
+    /// The heard signals RL and RH of one octet in mode 1, 2 or 3.
+    pub fn sub_bands(&mut self, octet: u8, mode: u8) -> (i32, i32) {
+        (self.decode_low(octet & 63, mode), self.decode_high(octet >> 6))
+    }
+
+    /// Decodes n octets into the 2n lent samples. Refusals in the order 1, 3.
+    pub fn decode(&mut self, mode: u8, octets: &[u8], samples: &mut [i16]) -> Result<(), Refusal> {
+        let mode = mode_in_force(mode)?;
+        if octets.len() > MOST_OCTETS || samples.len() != 2 * octets.len() {
+            return refused(3);
+        }
+        if octets.is_empty() {
+            return Ok(());
+        }
+        if self.wrong == Wrong::ForgetPairs && mode != self.last_mode {
+            self.receive.forget();
+        }
+        self.last_mode = mode;
+        for (octet, pair) in octets.iter().zip(samples.chunks_mut(2)) {
+            let (rl, rh) = self.sub_bands(*octet, mode);
+            let (xout1, xout2) = self.receive.pair(rl, rh);
+            pair[0] = xout1 as i16;
+            pair[1] = xout2 as i16;
+        }
+        Ok(())
+    }
+}

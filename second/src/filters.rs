@@ -1,0 +1,101 @@
+//! Section 5: the two mirror filters, over all samples or pairs since reset.
+
+use crate::arith::limit;
+use crate::history::History;
+use crate::tables::H;
+use crate::Wrong;
+
+/// The transmit filter and the samples it has been given since reset.
+#[derive(Clone, Debug)]
+pub struct Transmit {
+    wrong: Wrong,
+    samples: History,
+}
+
+impl Transmit {
+    /// A transmit filter at reset.
+    pub fn reset(wrong: Wrong) -> Transmit {
+        Transmit { wrong, samples: History::default() }
+    }
+
+    /// The sum of every second coefficient from `first` on, times the sample
+    /// as many places before instant `j` as the coefficient's index says.
+    fn accumulate(&self, first: usize, j: usize) -> i32 {
+        (first..24).step_by(2).map(|i| H[i] * self.samples.before(j, i)).sum()
+    }
+
+    /// ACCUMA and ACCUMB at the newer sample of the last pair.
+    fn accumulators(&self) -> (i32, i32) {
+        let j = self.samples.len() - 1;
+        if self.wrong == Wrong::PhasesExchanged {
+            return (self.accumulate(0, j - 1), self.accumulate(1, j + 1));
+        }
+        (self.accumulate(0, j), self.accumulate(1, j))
+    }
+
+    /// LOWT and HIGHT: the signals XL and XH after one more pair of samples.
+    pub fn pair(&mut self, older: i32, newer: i32) -> (i32, i32) {
+        self.samples.push(older);
+        self.samples.push(newer);
+        let (xa, xb) = self.accumulators();
+        let xl = (xa + xb).div_euclid(8192);
+        let xh = (xa - xb).div_euclid(8192);
+        if self.wrong == Wrong::TransmitUnlimited {
+            return (xl, xh);
+        }
+        (limit(xl), limit(xh))
+    }
+}
+
+/// The receive filter and the pairs RL, RH it has been given since reset.
+#[derive(Clone, Debug)]
+pub struct Receive {
+    wrong: Wrong,
+    low: History,
+    high: History,
+}
+
+impl Receive {
+    /// A receive filter at reset.
+    pub fn reset(wrong: Wrong) -> Receive {
+        Receive { wrong, low: History::default(), high: History::default() }
+    }
+
+    /// Makes all past pairs 0 (only a wrong decoder does this).
+    pub fn forget(&mut self) {
+        self.low.forget();
+        self.high.forget();
+    }
+
+    /// RECA, ACCUMC: the even coefficients over RL - RH.
+    fn accumc(&self, n: usize) -> i32 {
+        (0..12).map(|i| H[2 * i] * (self.low.before(n, i) - self.high.before(n, i))).sum()
+    }
+
+    /// RECB, ACCUMD: the odd coefficients over RL + RH.
+    fn accumd(&self, n: usize) -> i32 {
+        (0..12).map(|i| H[2 * i + 1] * (self.low.before(n, i) + self.high.before(n, i))).sum()
+    }
+
+    /// One output sample from its sum.
+    fn output(&self, sum: i32) -> i32 {
+        let value = sum.div_euclid(4096);
+        if self.wrong == Wrong::ReceiveWraps {
+            return i32::from(value as i16);
+        }
+        limit(value)
+    }
+
+    /// SELECT: the two samples XOUT1, XOUT2 after one more pair of signals.
+    pub fn pair(&mut self, rl: i32, rh: i32) -> (i32, i32) {
+        self.low.push(rl);
+        self.high.push(rh);
+        let n = self.low.len() - 1;
+        let xout1 = self.output(self.accumc(n));
+        let xout2 = self.output(self.accumd(n));
+        if self.wrong == Wrong::PhasesExchanged {
+            return (xout2, xout1);
+        }
+        (xout1, xout2)
+    }
+}

@@ -1,0 +1,86 @@
+//! The programs on bytes: what they write and what they refuse.
+
+use second::compare::{decode_all, encode_all};
+use second::material::{self, Kind, Stream};
+use second::Wrong;
+use std::io::Write;
+use std::process::{Command, Stdio};
+
+/// Runs a program on the input; its output and what it says on the side.
+fn run(words: &[&str], input: &[u8]) -> (Vec<u8>, String) {
+    let mut child = Command::new(env!("CARGO_BIN_EXE_second"))
+        .args(words)
+        .stdin(Stdio::piped())
+        .stdout(Stdio::piped())
+        .stderr(Stdio::piped())
+        .spawn()
+        .unwrap();
+    let (mut stdin, input) = (child.stdin.take().unwrap(), input.to_vec());
+    let feeder = std::thread::spawn(move || stdin.write_all(&input).ok());
+    let done = child.wait_with_output().unwrap();
+    feeder.join().unwrap();
+    (done.stdout, String::from_utf8(done.stderr).unwrap())
+}
+
+/// Samples as bytes, the high byte first.
+fn bytes(samples: &[i16]) -> Vec<u8> {
+    samples.iter().flat_map(|sample| sample.to_be_bytes()).collect()
+}
+
+/// Noise of the whole range.
+fn noise(n: usize) -> Vec<i16> {
+    match material::stream(Kind::NoiseFull, 1, n) {
+        Stream::Samples(samples) => samples,
+        Stream::Octets(_) => panic!("noise is samples"),
+    }
+}
+
+#[test]
+fn long_streams_are_coded_and_decoded() {
+    let samples = noise(50000);
+    let octets = encode_all(&samples, Wrong::None);
+    assert_eq!(run(&["encode"], &bytes(&samples)), (octets.clone(), String::new()));
+    for mode in ["0", "1", "2", "3"] {
+        let heard = decode_all(&octets, &[mode.parse().unwrap()], 8000, Wrong::None);
+        assert_eq!(run(&["decode", mode], &octets), (bytes(&heard), String::new()));
+    }
+    assert_eq!(run(&["encode"], &[]), (vec![], String::new()));
+}
+
+#[test]
+fn a_ragged_input_is_refused_after_its_whole_pairs() {
+    let samples = noise(20);
+    let octets = encode_all(&samples, Wrong::None);
+    for surplus in 1..4 {
+        let input = [bytes(&samples), vec![0; surplus]].concat();
+        assert_eq!(run(&["encode"], &input), (octets.clone(), "refused 3 0\n".to_string()));
+    }
+}
+
+#[test]
+fn a_sample_out_of_range_is_refused_with_its_place_in_the_stream() {
+    let mut samples = noise(20000);
+    samples[17003] = -16385;
+    let octets = encode_all(&noise(16000), Wrong::None);
+    assert_eq!(run(&["encode"], &bytes(&samples)), (octets, "refused 4 17003\n".to_string()));
+}
+
+#[test]
+fn a_mode_out_of_range_is_refused() {
+    for mode in ["4", "256", "-1", "x"] {
+        assert_eq!(run(&["decode", mode], &[0]), (vec![], "refused 1 0\n".to_string()));
+    }
+}
+
+#[test]
+fn the_listing_writes_lines() {
+    assert_eq!(run(&["listing"], &[0; 512]), (b"refused 7 0\n".to_vec(), String::new()));
+    assert_eq!(run(&["listing"], &[]), (vec![], String::new()));
+}
+
+#[test]
+fn material_is_written() {
+    let (output, _) = run(&["material", "NoiseFull", "1", "100"], &[]);
+    assert_eq!(output, bytes(&noise(100)));
+    assert_eq!(run(&["material", "Directed", "0", "3"], &[]).0, [0x20; 3]);
+}
