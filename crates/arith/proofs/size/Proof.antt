@@ -7,7 +7,7 @@ use lib.Dec.{T}
 use lib.IntN.{ℤ, pos, negsuc, natAbs, subℕ, _-ℤ_}
 use lib.Signed.{mag, ltZ, nonNeg}
 use mir.Syntax.{w16}
-use mir.Val.{Fits, toZ, ofZ}
+use mir.Val.{Fits, SFits, toZ, ofZ}
 use mir.Facts.{toZ-ofZ}
 use borrow.Author.Tests.{ltb-true, le-ltb}
 use Rattle.laws.specs.Order.{zarith, same, sub-read, test-true, test-false, no}
@@ -22,7 +22,10 @@ kept : (z : ℤ) → ltZ z (pos 0) ≡ false → z ≡ pos (mag z)
 kept (pos n) e = refl
 kept (negsuc n) e = no e
 
--- a size as an unsigned number
+-- a size as a signed number, and as an unsigned one
+signed : {v : ℤ} {n : ℕ} → v ≡ pos n → n < 2 ^ 15 → SFits w16 v
+signed {v} {n} e h = rw e (record { sfits = h })
+
 unsigned : {v : ℤ} {n : ℕ} → v ≡ pos n → n < 2 ^ 15 → T (nonNeg v) × Fits w16 (natAbs v)
 unsigned {v} {n} e h = rw e (tt, record { fits = omega arith })
 
@@ -30,7 +33,7 @@ below : (c : tie.Then1) → negsuc 0 -ℤ toZ w16 (ofZ w16 (c .before .args .x))
 below c = rw (toZ-ofZ (c .before .fits .x)) (negated (c .before .args .x) (rw (toZ-ofZ (c .before .fits .x)) at (c .if1 .taken)))
 
 sub-result : tie.Need-sub-result
-sub-result c = rw (below c) (record { sfits = c .before .fits .x .sfits })
+sub-result c = signed (below c) (c .before .fits .x .sfits)
 
 cast-result : tie.Need-cast-result
 cast-result c = unsigned (toZ-ofZ (sub-result c) ∙ below c) (c .before .fits .x .sfits)
