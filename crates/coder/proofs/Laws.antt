@@ -1,7 +1,7 @@
 -- Laws of the coder's step, run and call, on plain values.
 -- Assumes nothing.
-use mathlib.Core.Path.{_≡_, refl, sym, ap, _∙_}
-use mathlib.Core.Bool.{Bool, true, false, cond, not}
+use mathlib.Core.Path.{_≡_, sym, ap, _∙_}
+use mathlib.Core.Bool.{true, false, cond}
 use mathlib.Core.List.{List, [], _∷_, _++_, append-nil}
 use Prim.Native.Nat.{ℕ, zero, suc, _+_, _*_, _≤_, _<_}
 use native.Mathlib.Numerals.{add-one}
@@ -11,17 +11,15 @@ use lib.IntN.{ℤ, pos}
 use lib.ListN.{length, take, drop, getD, drop-of-length-le}
 use lib.Seq.{drop-cons, take-all}
 use Rattle.laws.specs.Order.{by-test, no}
-use Rattle.laws.specs.Outcome.{Outcome, Does}
 use Rattle.laws.specs.Turns.{drop-pair}
 use Rattle.g722.specs.Arithmetic.{sub}
-use Rattle.g722.specs.Band.{predic, nextBand, lowAfter, highAfter}
+use Rattle.g722.specs.Band.{predic, nextBand}
 use Rattle.g722.specs.Octet.{octet}
 use Rattle.g722.specs.Records.{inRange, allInRange, goodCoder}
 use Rattle.g722.specs.Coding.{window, ilOf, ihOf, octetOf, coderStep, octetsOf, coderAfter, firstBad, misfit, notCoded, coded, codeCall}
 use Rattle.g722.specs.declared.Factors.{Factors}
 use Rattle.g722.specs.declared.Band.{Band}
 use Rattle.g722.specs.declared.Coder.{Coder}
-use Rattle.g722.specs.declared.Coded.{Coded}
 use Rattle.band.specs.declared.Estimates.{Estimates}
 use Rattle.band.specs.Loop.{estimated, adapted, halves}
 use Rattle.mirror.specs.declared.Halves.{Halves}

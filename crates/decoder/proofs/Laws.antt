@@ -1,20 +1,20 @@
 -- Laws of the decoder's step, run and call, on plain values.
 -- Assumes nothing.
-use mathlib.Core.Path.{_≡_, refl, sym, ap, _∙_}
+use mathlib.Core.Path.{_≡_, ap, _∙_}
 use mathlib.Core.Bool.{true, false}
 use mathlib.Core.List.{List, [], _∷_, _++_, append-nil}
 use Prim.Native.Nat.{ℕ, _+_, _*_, _≤_, _<_}
 use borrow.Author.Tests.{lt-ltb, le-ltb, eq-eqb, ne-eqb}
-use lib.IntN.{ℤ, pos}
+use lib.IntN.{ℤ}
 use lib.ListN.{length, take, drop, getD, drop-of-length-le}
 use lib.Seq.{take-all}
 use Rattle.laws.specs.Turns.{drop-one}
 use Rattle.g722.specs.Arithmetic.{add, limit}
 use Rattle.g722.specs.Quantise.{inForce}
-use Rattle.g722.specs.Band.{predic, recons, nextBand}
+use Rattle.g722.specs.Band.{recons, nextBand}
 use Rattle.g722.specs.Records.{goodDecoder}
 use Rattle.g722.specs.Coding.{misfit}
-use Rattle.g722.specs.Decoding.{rlOf, rhOf, rlRow, rhRow, firstOf, secondOf, decoderStep, samplesOf, decoderAfter, notDecoded, decoded, decodeCall}
+use Rattle.g722.specs.Decoding.{rlRow, rhRow, firstOf, secondOf, decoderStep, samplesOf, decoderAfter, notDecoded, decoded, decodeCall}
 use Rattle.g722.specs.declared.Factors.{Factors}
 use Rattle.g722.specs.declared.Band.{Band}
 use Rattle.g722.specs.declared.Decoder.{Decoder}

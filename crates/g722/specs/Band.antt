@@ -6,7 +6,7 @@ use mathlib.Core.List.{List, [], _∷_, _++_, zipWith}
 use Prim.Native.Nat.{ℕ}
 use lib.IntN.{ℤ, pos}
 use lib.ListN.{drop}
-use lib.Signed.{leZ, shrZ}
+use lib.Signed.{shrZ}
 use Rattle.laws.specs.Clamp.{clamp}
 use Rattle.g722.specs.Arithmetic.{neg, add, sub, mul, sameSign, equal}
 use Rattle.g722.specs.Quantise.{invqal, invqah, lowFactors, highFactors}

@@ -2,7 +2,7 @@
 -- Assumes nothing.
 use mathlib.Core.Path.{_≡_, refl}
 use mathlib.Core.List.{List, [], _∷_, _++_, map, zipWith}
-use Prim.Native.Nat.{ℕ, zero, suc, _+_, _*_, _/_, _%_, _-_}
+use Prim.Native.Nat.{ℕ, zero, suc, _+_, _*_, _/_, _%_}
 use lib.IntN.{ℤ, pos, _-ℤ_}
 use lib.ListN.{length, drop, replicate}
 use lib.Signed.{mag}
@@ -21,12 +21,9 @@ use Rattle.g722.specs.Decoding.{rlOf, rhOf, rlRow, rhRow, firstOf, secon
 use Rattle.g722.specs.Cue.{bits, bitsOf, spelt, bytesOf, carrying, unfilled, dataNumber, dataCall, putCall, takeCall}
 use Rattle.g722.specs.Arithmetic.{neg}
 use Rattle.g722.specs.declared.Poles.{Poles}
-use Rattle.g722.specs.declared.Factors.{Factors}
 use Rattle.g722.specs.declared.Band.{Band}
 use Rattle.g722.specs.declared.Coder.{Coder}
 use Rattle.g722.specs.declared.Decoder.{Decoder}
-use Rattle.g722.specs.declared.Coded.{Coded}
-use Rattle.g722.specs.declared.Decoded.{Decoded}
 use Rattle.g722.specs.declared.Moved.{Moved}
 
 pub record Case : Type 0 where

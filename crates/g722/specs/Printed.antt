@@ -1,6 +1,6 @@
 -- Tables 4 to 8 and 16 to 21 of source 003 as printed. No definition leans on them: Checks.antt holds the definitions against them.
 -- Assumes nothing.
-use mathlib.Core.List.{List, [], _∷_, _++_}
+use mathlib.Core.List.{List, [], _∷_}
 use Prim.Native.Nat.{ℕ}
 use lib.IntN.{ℤ, pos}
 use Rattle.g722.specs.Arithmetic.{neg}

@@ -1,6 +1,6 @@
 -- Quantising, inverse quantising and the scale factors: blocks 1, 2, 3 and 5 of section 6.2 of source 003, for both bands.
 -- Assumes nothing.
-use mathlib.Core.Bool.{Bool, cond}
+use mathlib.Core.Bool.{cond}
 use mathlib.Core.List.{List, [], _∷_, map}
 use Prim.Native.Nat.{ℕ, suc, _+_, _*_, _/_}
 use lib.Dec.{eqb}

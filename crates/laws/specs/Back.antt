@@ -3,7 +3,7 @@
 --     got16 (c .before .clamp)                      a call's result, from the call's record
 --     back16 z h                                    an element or a field, with its bound
 -- Assumes nothing.
-use mathlib.Core.Path.{_≡_, ap, ap₂, _∙_}
+use mathlib.Core.Path.{_≡_, _∙_}
 use mathlib.Core.List.{List}
 use Prim.Native.Nat.{ℕ, _<_, _^_}
 use lib.IntN.{ℤ}

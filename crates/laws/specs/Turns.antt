@@ -1,12 +1,12 @@
 -- Turns of loops over lists: what comes off the front of the rest, and what a store moves from what is to come to what is done.
 -- Assumes nothing.
-use Prim.Native.Nat.{ℕ, suc, _+_, _*_, _<_}
-use mathlib.Core.Path.{_≡_, sym, ap, _∙_}
-use mathlib.Core.List.{List, _∷_, _++_, [], append-assoc}
+use Prim.Native.Nat.{ℕ, _+_, _*_, _<_}
+use mathlib.Core.Path.{_≡_, ap, _∙_}
+use mathlib.Core.List.{List, _∷_, _++_, append-assoc}
 use native.Mathlib.Numerals.{add-one}
 use native.Mathlib.Omega.{arith}
 use lib.ListN.{length, take, drop, getD, set, length-set}
-use lib.Seq.{drop-cons, take-suc-set, take-set-le}
+use lib.Seq.{drop-cons, take-suc-set}
 
 module _ {A : Type 0} where
   -- one element comes off the front

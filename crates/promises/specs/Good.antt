@@ -1,6 +1,6 @@
 -- Good in, good out: reset is good, and an accepted call from a good record gives a good record, so no caller is ever refused the record it was handed.
 -- Assumes nothing.
-use mathlib.Core.Path.{_≡_, refl, sym, ap, _∙_}
+use mathlib.Core.Path.{_≡_, refl, sym}
 use mathlib.Core.Bool.{Bool, true, false, _&&_}
 use mathlib.Core.List.{List, [], _∷_, _++_}
 use Prim.Native.Nat.{ℕ, zero, suc, _≤_}
@@ -21,7 +21,6 @@ use Rattle.g722.specs.Records.{inRange, allInRange, goodPoles, goodFactors, goo
 use Rattle.g722.specs.Coding.{window, coderStep, coderAfter, firstBad, coded, codeCall}
 use Rattle.g722.specs.Decoding.{rlOf, rhOf, rlRow, rhRow, decoderStep, decoderAfter, decoded, decodeCall}
 use Rattle.g722.specs.declared.Poles.{Poles}
-use Rattle.g722.specs.declared.Factors.{Factors}
 use Rattle.g722.specs.declared.Band.{Band}
 use Rattle.g722.specs.declared.Coder.{Coder}
 use Rattle.g722.specs.declared.Decoder.{Decoder}

@@ -4,7 +4,7 @@ use mathlib.Core.Path.{_≡_, refl, sym, ap, _∙_}
 use mathlib.Core.List.{List, [], _∷_, _++_, map}
 use Prim.Native.Nat.{ℕ}
 use lib.IntN.{ℤ}
-use Rattle.laws.specs.Outcome.{Outcome, Does}
+use Rattle.laws.specs.Outcome.{Does}
 use Rattle.g722.specs.Records.{resetCoder, resetDecoder}
 use Rattle.g722.specs.Coding.{codeCall}
 use Rattle.g722.specs.Decoding.{decodeCall}

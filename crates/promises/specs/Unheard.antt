@@ -3,29 +3,24 @@
 -- and in the last two of octets decoded in mode 3, give the same samples and the same next record.
 -- Assumes nothing.
 use mathlib.Core.Path.{_≡_, refl, sym, ap, ap₂, _∙_}
-use mathlib.Core.Bool.{true, false, cond, not}
+use mathlib.Core.Bool.{cond}
 use mathlib.Core.List.{List, [], _∷_, _++_}
 use Prim.Native.Nat.{ℕ, suc, _/_, _%_}
-use lib.Dec.{eqb, ltb}
+use lib.Dec.{eqb}
 use lib.IntN.{ℤ}
 use lib.ListN.{length, drop}
 use lib.Pow.{field, shr-shr}
 use Rattle.laws.specs.Order.{by-test}
-use Rattle.laws.specs.Outcome.{Outcome}
 use Rattle.g722.specs.Arithmetic.{limit}
-use Rattle.g722.specs.Tables.{qq6, qq5, qq4}
-use Rattle.g722.specs.Words.{fromSix, fromFive, fromFour}
+use Rattle.g722.specs.Tables.{qq5, qq4}
+use Rattle.g722.specs.Words.{fromFive, fromFour}
 use Rattle.g722.specs.Quantise.{inForce, inverse, invqbl, invqah}
-use Rattle.g722.specs.Band.{recons, lowAfter, highAfter}
-use Rattle.g722.specs.Octet.{lowWord, highWord}
-use Rattle.g722.specs.Coding.{misfit}
-use Rattle.g722.specs.Records.{goodDecoder}
-use Rattle.g722.specs.Decoding.{rlOf, rhOf, rlRow, rhRow, firstOf, secondOf, decoderStep, samplesOf, decoderAfter, notDecoded, decoded, decodeCall}
+use Rattle.g722.specs.Band.{recons, highAfter}
+use Rattle.g722.specs.Octet.{lowWord}
+use Rattle.g722.specs.Decoding.{rlOf, rhOf, rlRow, rhRow, firstOf, secondOf, decoderStep, samplesOf, decoderAfter, decoded, decodeCall}
 use Rattle.g722.specs.Mirror.{accumc, accumd}
 use Rattle.g722.specs.Upper.{upperSix, low-by-four, upper-low, upper-high}
-use Rattle.g722.specs.declared.Band.{Band}
 use Rattle.g722.specs.declared.Decoder.{Decoder}
-use Rattle.g722.specs.declared.Decoded.{Decoded}
 use Rattle.promises.specs.Sequences.{DecodeInput, decoderThrough, samplesThrough}
 
 -- what is heard of an octet: all of it in mode 1, all but the last bit in mode 2, all but the last two in mode 3

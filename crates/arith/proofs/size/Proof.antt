@@ -1,16 +1,16 @@
 -- `arith::size` meets its contract. Read back, the number is -1 - x below 0, and x from 0 up.
 use mathlib.Core.Path.{_≡_, refl, _∙_, ap}
 use mathlib.Core.Bool.{true, false}
-use Prim.Native.Nat.{ℕ, suc, _<_, _^_}
+use Prim.Native.Nat.{ℕ, _<_, _^_}
 use native.Mathlib.Omega.{arith}
 use lib.Dec.{T}
-use lib.IntN.{ℤ, pos, negsuc, natAbs, subℕ, _-ℤ_}
+use lib.IntN.{ℤ, pos, negsuc, natAbs, _-ℤ_}
 use lib.Signed.{mag, ltZ, nonNeg}
 use mir.Syntax.{w16}
 use mir.Val.{Fits, SFits, toZ, ofZ}
 use mir.Facts.{toZ-ofZ}
-use borrow.Author.Tests.{ltb-true, le-ltb}
-use Rattle.laws.specs.Order.{zarith, same, sub-read, test-true, test-false, no}
+use borrow.Author.Tests.{ltb-true}
+use Rattle.laws.specs.Order.{zarith, sub-read, no}
 use Rattle.arith.proofs.size.Statement.{statement}
 use Rattle.arith.proofs.size.Tie as tie
 

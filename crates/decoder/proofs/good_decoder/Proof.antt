@@ -1,5 +1,4 @@
 use borrow.Author.Needs.{needs}
-use mathlib.Core.Path.{sym}
 use Rattle.g722.specs.Records.{goodDecoder}
 use Rattle.decoder.proofs.good_decoder.Statement.{statement}
 use Rattle.decoder.proofs.good_decoder.Tie as tie

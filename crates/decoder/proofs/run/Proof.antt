@@ -1,15 +1,14 @@
 -- `decoder::run` meets its contract: what is left to do from here, from the record as it is, gives the whole.
-use Prim.Native.Nat.{ℕ, _≤_, _*_, _-_, _+_, _<_, _^_, zero-le}
+use Prim.Native.Nat.{_≤_, _*_, _-_, _+_, _<_, _^_, zero-le}
 use mathlib.Core.Path.{_≡_, refl, sym, ap, _∙_}
 use mathlib.Core.List.{List, _++_, _∷_}
 use native.Mathlib.Omega.{arith}
 use lib.IntN.{ℤ}
-use lib.ListN.{length, take, drop, getD, set, length-set}
+use lib.ListN.{length, take, drop, length-set}
 use Rattle.laws.specs.Back.{back16}
 use Rattle.laws.specs.Turns.{put-pair}
 use Rattle.g722.specs.Decoding.{samplesOf, decoderAfter}
 use Rattle.decoder.specs.declared.Heard.{Heard}
-use Rattle.decoder.specs.Step.{heardOf}
 use Rattle.decoder.proofs.Laws.{record-turn, samples-turn, record-end, samples-end}
 use Rattle.decoder.proofs.run.Statement.{statement}
 use Rattle.decoder.proofs.run.Tie as tie

@@ -1,4 +1,4 @@
-use mathlib.Core.Path.{_≡_, ap, _∙_}
+use mathlib.Core.Path.{ap, _∙_}
 use Rattle.laws.specs.Back.{back16, got16, got32}
 use Rattle.g722.specs.Octet.{lowWord}
 use Rattle.g722.specs.Quantise.{invqbl, invqal, lowFactors}
