@@ -25,6 +25,10 @@ use Rattle.g722.specs.Words.{fromFive, fromFour, fromSix, fromTwo, toSix, toTwo
 use Rattle.laws.specs.Clamp.{clamp}
 use Rattle.laws.specs.Outcome.{Does, Outcome, once}
 use Rattle.mirror.specs.Filters.{joinOf, splitOf}
+use Rattle.recording.specs.Play.{playCall}
+use Rattle.recording.specs.Walk.{stepAt}
+use Rattle.stream.specs.Chunks.{decodeChunk, encodeChunk}
+use Rattle.text.specs.Lines.{blockLine, lineOf, refusedLine}
 use Rattle.wire.specs.Bytes.{highOf, loadCall, lowOf, sampleOf, storeCall}
 use Rattle.g722.specs.declared.Band.{Band}
 use Rattle.g722.specs.declared.Coder.{Coder}
@@ -313,3 +317,32 @@ wire-load bytes samples = all-once _
 
 pub wire-store : (samples : List ℤ) (bytes : List ℕ) → Once (storeCall samples bytes)
 wire-store samples bytes = all-once _
+
+-- ---- stream
+
+pub stream-encode-chunk : (c : Coder) (bytes octets : List ℕ) → Once (encodeChunk c bytes octets)
+stream-encode-chunk c bytes octets = all-once _
+
+pub stream-decode-chunk : (d : Decoder) (told : ℕ) (octets bytes : List ℕ) → Once (decodeChunk d told octets bytes)
+stream-decode-chunk d told octets bytes = all-once _
+
+-- ---- refusal
+
+pub refusal-say : (number index : ℕ) → One {A = Unit {0}} tt
+refusal-say number index = one _
+
+-- ---- recording
+
+pub recording-step-at : (src : List ℕ) (at : ℕ) → One (stepAt src at)
+recording-step-at src at = one _
+
+pub recording-play : (d : Decoder) (b : List ℕ) (samples : List ℤ) → Once (playCall d b samples)
+recording-play d b samples = all-once _
+
+-- ---- text
+
+pub text-block-line : (take block mode count : ℕ) (first last : ℤ) → One (lineOf (blockLine take block mode count first last))
+text-block-line take block mode count first last = one _
+
+pub text-refused-line : (number blocks : ℕ) → One (lineOf (refusedLine number blocks))
+text-refused-line number blocks = one _

@@ -1,0 +1,2 @@
+-- What the listing says of a block.
+pub mod Listed

@@ -1,0 +1,14 @@
+-- What the listing says of a block that was played after so many others.
+-- Assumes nothing.
+use mathlib.Core.Bool.{cond}
+use mathlib.Core.List.{List}
+use Prim.Native.Nat.{ℕ}
+use lib.Dec.{eqb}
+use Rattle.recording.specs.declared.Played.{Played}
+use Rattle.text.specs.Lines.{blockLine, refusedLine}
+
+unfoldable pub listed : Played → ℕ → List ℕ
+listed p before =
+    cond (eqb (p .number) 0)
+    (blockLine (p .take) (p .block) (p .mode) (p .count) (p .first) (p .last))
+    (refusedLine (p .number) before)

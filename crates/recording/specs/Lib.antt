@@ -1,0 +1,3 @@
+-- The walk of a recording, and a block played.
+pub mod Walk
+pub mod Play

@@ -1,0 +1,134 @@
+// A recording: 512-byte blocks one after another (document 01, "Logger blocks"), walked and played.
+ghost use mathlib.Core.Path.{_≡_};
+ghost use Prim.Native.Nat.{_+_, _<_, _^_};
+ghost use Rattle.laws.specs.Outcome.{Does};
+ghost use Rattle.recording.specs.Walk.{ended, stood, stepAt};
+ghost use Rattle.recording.specs.Play.{notPlayed, playCall};
+use block::BlockRead;
+use g722::Decoder;
+
+// What stands at a place of a recording, and the place from which the walk goes on.
+pub struct Step {
+    pub end: bool,
+    pub block: BlockRead,
+    pub next: usize,
+}
+
+// The answer of playing a block: document 01's number, the decoder's next record, and where the number is 0 what the listing says.
+pub struct Played {
+    pub number: u8,
+    pub index: usize,
+    pub next: Decoder,
+    pub take: u32,
+    pub block: u32,
+    pub mode: u8,
+    pub count: usize,
+    pub first: i16,
+    pub last: i16,
+}
+
+// Nothing is left: the walk stays.
+fn ended(at: usize) -> Step
+    ensures { λ r. ⌜ r ≡ ended at ⌝ }
+{
+    Step {
+        end: true,
+        block: BlockRead {
+            number: 0,
+            index: 0,
+            take: 0,
+            block: 0,
+            mode: 0,
+            count: 0,
+        },
+        next: at,
+    }
+}
+
+// A block that was read or refused: the walk goes on past a good one.
+fn stood(block: BlockRead, at: usize) -> Step
+    requires { ⌜ at + 1 < 2 ^ 64 ⌝ }
+    ensures { λ r. ⌜ r ≡ stood block at ⌝ }
+{
+    let number = block.number;
+    if number == 0 {
+        return Step {
+            end: false,
+            block: block,
+            next: at + 1,
+        };
+    }
+    Step {
+        end: false,
+        block: block,
+        next: at,
+    }
+}
+
+// Block number `at` of a recording.
+pub fn step_at(src: &[u8], at: usize) -> Step
+    ensures { λ r. ⌜ r ≡ stepAt (now (src .entry)) at ⌝ }
+{
+    let whole = src.len() / 512;
+    if whole < at {
+        return ended(at);
+    }
+    let from = 512 * at;
+    if at < whole {
+        return stood(block::read(&src[from..from + 512]), at);
+    }
+    if src.len() == from {
+        return ended(at);
+    }
+    stood(block::read(&src[from..]), at)
+}
+
+// A block that was not played: the number, the record as it came, and 0 in every other field.
+fn not_played(number: u8, d: Decoder) -> Played
+    ensures { λ r. ⌜ r ≡ notPlayed number d ⌝ }
+{
+    Played {
+        number: number,
+        index: 0,
+        next: d,
+        take: 0,
+        block: 0,
+        mode: 0,
+        count: 0,
+        first: 0,
+        last: 0,
+    }
+}
+
+// Reads a block and decodes its octets, from inside it, into the front of the samples: reading's refusals, 3 where the samples do not fit, the decoder's.
+pub fn play(d: Decoder, b: &[u8], samples: &mut [i16]) -> Played
+    ensures { λ r. ⌜ Does (playCall d (now (b .entry)) (now (samples .entry))) r (now (samples .exit)) ⌝ }
+{
+    let read = block::read(b);
+    if read.number != 0 {
+        return not_played(read.number, d);
+    }
+    let count = read.count;
+    let size = 2 * count;
+    if samples.len() < size {
+        return not_played(3, d);
+    }
+    let done = decoder::decode(d, read.mode, &b[12..12 + count], &mut samples[..size]);
+    if done.number != 0 {
+        return not_played(done.number, d);
+    }
+    let next = done.next;
+    let first = samples[0];
+    let last = samples[size - 1];
+    Played {
+        number: 0,
+        index: 0,
+        next: next,
+        take: read.take,
+        block: read.block,
+        mode: read.mode,
+        count: count,
+        first: first,
+        last: last,
+    }
+}

@@ -1,0 +1,3 @@
+-- Numbers in decimal, and the lines made of them.
+pub mod Decimal
+pub mod Lines
