@@ -17,6 +17,7 @@ pub mod history;
 pub mod listing;
 pub mod material;
 pub mod quantiser;
+pub mod sequences;
 pub mod tables;
 pub mod wrong;
 

@@ -125,6 +125,16 @@ fn noise(chance: &mut Chance, n: usize, level: i64) -> Vec<i16> {
     (0..n).map(|_| sample(chance.between(-level, level))).collect()
 }
 
+/// Even noise of a seed up to a level.
+pub fn even_noise(seed: u64, n: usize, level: i64) -> Vec<i16> {
+    noise(&mut Chance(seed), n, level)
+}
+
+/// A tone from its top on, 8000 samples a second.
+pub fn tone(n: usize, hertz: usize, level: i64) -> Vec<i16> {
+    (0..n).map(|i| sample(sine((16384 + i * hertz * 65536 / 8000) as u32, level))).collect()
+}
+
 /// Runs of samples at either end.
 fn full_scale(chance: &mut Chance, n: usize) -> Vec<i16> {
     joined(n, || {

@@ -2,6 +2,7 @@
 -- One law, `one` of an equation and `once` of a call over lent memory, cited once for each; `tests/public-functions` holds this list against the code.
 -- Assumes nothing.
 use Prim.Native.Nat.{ℕ}
+use denote.Ref.{RefT}
 use lib.IntN.{pos, ℤ}
 use lib.ListN.{drop, getD}
 use lib.Signed.{mag}
@@ -26,7 +27,8 @@ use Rattle.laws.specs.Clamp.{clamp}
 use Rattle.laws.specs.Outcome.{Does, Outcome, once}
 use Rattle.mirror.specs.Filters.{joinOf, splitOf}
 use Rattle.recording.specs.Play.{playCall}
-use Rattle.recording.specs.Walk.{stepAt}
+use Rattle.recording.specs.Walk.{nextAt, stepAt}
+use Rattle.recording.specs.declared.Reader.{Reader}
 use Rattle.stream.specs.Chunks.{decodeChunk, encodeChunk}
 use Rattle.text.specs.Lines.{blockLine, lineOf, refusedLine}
 use Rattle.wire.specs.Bytes.{highOf, loadCall, lowOf, sampleOf, storeCall}
@@ -52,6 +54,13 @@ Once {A} {B} x = (r s : A) (l m : B) → Does x r l → Does x s m → (r ≡ s)
 
 all-once : {A B : Type 0} (x : Outcome A B) → Once x
 all-once x r s l m p q = once p q
+
+-- a reader is its slice and its place: an equation for each leaves one reader
+abbrev Fields : RefT (List ℕ) → ℕ → Type 0
+Fields src at = (r s : Reader) → (r .src ≡ src) × (r .at ≡ at) → (s .src ≡ src) × (s .at ≡ at) → r ≡ s
+
+fields : (src : RefT (List ℕ)) (at : ℕ) → Fields src at
+fields src at r s p q = λ i. record { src = (p .0 ∙ sym (q .0)) i; at = (p .1 ∙ sym (q .1)) i }
 
 -- ---- arith
 
@@ -335,6 +344,18 @@ refusal-say number index = one _
 
 pub recording-step-at : (src : List ℕ) (at : ℕ) → One (stepAt src at)
 recording-step-at src at = one _
+
+pub recording-next-at : (src : List ℕ) (at : ℕ) → One (nextAt src at)
+recording-next-at src at = one _
+
+pub recording-new : (src : RefT (List ℕ)) → Fields src 0
+recording-new src = fields _ _
+
+pub recording-next : (r : Reader) → One (stepAt (r .src .now) (r .at))
+recording-next r = one _
+
+pub recording-moved-on : (r : Reader) → Fields (r .src) (nextAt (r .src .now) (r .at))
+recording-moved-on r = fields _ _
 
 pub recording-play : (d : Decoder) (b : List ℕ) (samples : List ℤ) → Once (playCall d b samples)
 recording-play d b samples = all-once _

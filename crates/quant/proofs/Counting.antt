@@ -4,6 +4,7 @@ use mathlib.Core.Path.{_≡_, refl, sym, _∙_}
 use mathlib.Core.Bool.{true, false}
 use mathlib.Core.List.{List, [], _∷_, map}
 use Prim.Native.Nat.{ℕ, zero, suc, _+_, _*_, _≤_, _<_}
+use native.Mathlib.Omega.{arith}
 use native.Mathlib.Numerals.{add-one}
 use lib.Dec.{lit<}
 use lib.IntN.{ℤ, pos, negsuc, _*ℤ_}
@@ -67,10 +68,17 @@ low n q =
     clamp-mono (neg 32768) (pos 32767) (leZ-yes tt) (shrZ z 32768) (pos 0)
     (omega (zarith, shr-read z 32768 (lit< tt), up-neg (pos (q * 8 * suc n))))
 
+-- before place i: the levels there are all counted, and the count goes on from i
+abbrev pub Counted : ℕ → ℤ → ℕ → Type 0
+Counted s scale i = (i ≤ 29) × (atOrBelow s (levels scale) ≡ i + atOrBelow s (drop i (levels scale)))
+
 -- past the last level nothing is counted
-pub end : (s i : ℕ) → 29 ≤ i → (scale : ℤ) → atOrBelow s (drop i (levels scale)) ≡ 0
+none-past : (s i : ℕ) → 29 ≤ i → (scale : ℤ) → atOrBelow s (drop i (levels scale)) ≡ 0
 unfolding q6 atOrBelow
-end s i h scale = rw (drop-of-length-le (levels scale) h)
+none-past s i h scale = rw (drop-of-length-le (levels scale) h)
+
+pub end : (s i : ℕ) → 29 ≤ i → (scale : ℤ) → Counted s scale i → 30 ≡ 1 + atOrBelow s (levels scale)
+end s i h scale k = omega (arith, none-past s i h scale)
 
 -- at place i: a level at or below is counted and the count goes on; at one above it ends
 module _ (s i : ℕ) (h : i < 29) where
@@ -78,9 +86,15 @@ module _ (s i : ℕ) (h : i < 29) where
   unfolding q6
   split scale = drop-cons (levels scale) i (level scale 0) h ∙ rw (List·getD-map (level scale) (drop 1 q6) i 0)
 
-  pub on : (scale : ℤ) → ltZ (pos s) (levelAt scale i) ≡ false → atOrBelow s (drop i (levels scale)) ≡ suc (atOrBelow s (drop (i + 1) (levels scale)))
-  on scale e = rw (add-one, split scale) (counted s _ _ e)
+  one-more : (scale : ℤ) → ltZ (pos s) (levelAt scale i) ≡ false → atOrBelow s (drop i (levels scale)) ≡ suc (atOrBelow s (drop (suc i) (levels scale)))
+  one-more scale e = rw (split scale) (counted s _ _ e)
 
-  pub over : (scale : ℤ) → ltZ (pos s) (levelAt scale i) ≡ true → atOrBelow s (drop i (levels scale)) ≡ 0
-  over (pos n) e = rw (split (pos n)) (none s _ _ (rw (split (pos n)) at (rising-drop _≤ℤ_ i (levels (pos n)) (levels-rise n))) e)
-  over (negsuc n) e = absurd (omega (zarith, low n (getD (drop 1 q6) i 0)))
+  none-left : (scale : ℤ) → ltZ (pos s) (levelAt scale i) ≡ true → atOrBelow s (drop i (levels scale)) ≡ 0
+  none-left (pos n) e = rw (split (pos n)) (none s _ _ (rw (split (pos n)) at (rising-drop _≤ℤ_ i (levels (pos n)) (levels-rise n))) e)
+  none-left (negsuc n) e = absurd (omega (zarith, low n (getD (drop 1 q6) i 0)))
+
+  pub on : (scale : ℤ) → ltZ (pos s) (levelAt scale i) ≡ false → Counted s scale i → Counted s scale (i + 1)
+  on scale e k = rw (add-one i) (h, omega (arith, one-more scale e))
+
+  pub over : (scale : ℤ) → ltZ (pos s) (levelAt scale i) ≡ true → Counted s scale i → i + 1 ≡ 1 + atOrBelow s (levels scale)
+  over scale e k = omega (arith, none-left scale e)

@@ -8,8 +8,9 @@ use native.Mathlib.Omega.{arith}
 use lib.Dec.{lit<}
 use lib.IntN.{ℤ, pos, natAbs, _*ℤ_, *ℤ-comm}
 use lib.Signed.{mag, shrZ, leZ-yes}
-use mir.Syntax.{w16}
-use mir.Val.{SFits}
+use mir.Syntax.{w16, w32}
+use mir.Val.{Fits, SFits, toZ}
+use mir.Facts.{toZ-pos}
 use Rattle.laws.specs.Clamp.{clamp-id, clamp-within}
 use Rattle.laws.specs.Order.{zarith, sizes, size-within, shr-read}
 use Rattle.laws.specs.Size.{abs-mul, abs-mag, abs16, mag-abs}
@@ -25,11 +26,36 @@ unstopped a b h f =
     let s = shr-read z 32768 (lit< tt) in
     clamp-id _ _ _ (omega (zarith, s, sizes z, mag-abs z)) (omega (zarith, s, sizes z, mag-abs z))
 
+-- eight times an output or a level
+module _ (q : ℕ) (h : q ≤ 4095) where
+  pub eight-small : q * 8 ≤ 32766
+  eight-small = omega arith
+
+  pub eight-fits : Fits w16 (q * 8)
+  eight-fits = record { fits = omega arith }
+
+  pub eight-sfits : SFits w16 (pos (q * 8))
+  eight-sfits = record { sfits = omega arith }
+
+  pub eight-read : toZ w16 (q * 8) ≡ pos (q * 8)
+  eight-read = toZ-pos w16 (omega arith)
+
+-- a number of 16 bits as one of 32 with a sign
+module _ {n : ℕ} (f : Fits w16 n) where
+  pub as-i32 : SFits w32 (pos n)
+  as-i32 = record { sfits = omega arith }
+
+  pub i32-read : toZ w32 n ≡ pos n
+  i32-read = toZ-pos w32 (omega arith)
+
 -- an output with either sign
 pub signed-small : (t : Bool) (n : ℕ) → n ≤ 32766 → mag (cond t (neg n) (pos n)) ≤ 32766
 signed-small true zero h = h
 signed-small true (suc n) h = omega arith
 signed-small false n h = h
+
+pub small-fits : {z : ℤ} → mag z ≤ 32766 → SFits w16 z
+small-fits h = record { sfits = omega arith }
 
 -- the order of the factors is free, and a product fits 16 bits
 pub mul-comm : (a b : ℤ) → mul a b ≡ mul b a

@@ -1,3 +1,4 @@
--- The walk of a recording, and a block played.
+-- The walk of a recording, what follows of it, and a block played.
 pub mod Walk
+pub mod Stays
 pub mod Play

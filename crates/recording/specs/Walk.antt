@@ -23,3 +23,7 @@ stepAt s at =
     cond (leb (length s) (512 * at)) (ended at)
     (cond (ltb (length s) (512 * at + 512)) (stood (refused 6) at)
     (stood (readCall (take 512 (drop (512 * at) s))) at))
+
+-- where the walk goes on from there
+abbrev pub nextAt : List ℕ → ℕ → ℕ
+nextAt s at = stepAt s at .next

@@ -2,10 +2,16 @@
 ghost use mathlib.Core.Path.{_≡_};
 ghost use Prim.Native.Nat.{_+_, _<_, _^_};
 ghost use Rattle.laws.specs.Outcome.{Does};
-ghost use Rattle.recording.specs.Walk.{ended, stood, stepAt};
+ghost use Rattle.recording.specs.Walk.{ended, stood, stepAt, nextAt};
 ghost use Rattle.recording.specs.Play.{notPlayed, playCall};
 use block::BlockRead;
 use g722::Decoder;
+
+// A lent recording and the number of the block at which its walk stands.
+pub struct Reader<'a> {
+    pub src: &'a [u8],
+    pub at: usize,
+}
 
 // What stands at a place of a recording, and the place from which the walk goes on.
 pub struct Step {
@@ -81,6 +87,35 @@ pub fn step_at(src: &[u8], at: usize) -> Step
         return ended(at);
     }
     stood(block::read(&src[from..]), at)
+}
+
+// The number of the block from which the walk goes on.
+pub fn next_at(src: &[u8], at: usize) -> usize
+    ensures { λ r. ⌜ r ≡ nextAt (now (src .entry)) at ⌝ }
+{
+    step_at(src, at).next
+}
+
+// A reader at the first block.
+pub fn new<'a>(src: &'a [u8]) -> Reader<'a>
+    ensures { λ r. ⌜ (r .src ≡ src .entry) × (r .at ≡ 0) ⌝ }
+{
+    Reader { src, at: 0 }
+}
+
+// What stands where the reader is, and where it goes on.
+pub fn next<'a>(r: Reader<'a>) -> Step
+    ensures { λ s. ⌜ s ≡ stepAt (now (r .entry .src)) (r .entry .at) ⌝ }
+{
+    step_at(r.src, r.at)
+}
+
+// The reader past a good block; at the same one else.
+pub fn moved_on<'a>(r: Reader<'a>) -> Reader<'a>
+    ensures { λ q. ⌜ (q .src ≡ r .entry .src) × (q .at ≡ nextAt (now (r .entry .src)) (r .entry .at)) ⌝ }
+{
+    let at = next_at(r.src, r.at);
+    Reader { src: r.src, at }
 }
 
 // A block that was not played: the number, the record as it came, and 0 in every other field.

@@ -1,8 +1,9 @@
-//! The second codec's programs: encode, decode, listing, material, tells.
+//! The second codec's programs: encode, decode, listing, material, tells, sequences.
 
 use second::material::{self, Stream};
-use second::{compare, listing, wrong, Coder, Decoder, Refusal, Wrong, MOST_OCTETS};
+use second::{compare, listing, sequences, wrong, Coder, Decoder, Refusal, Wrong, MOST_OCTETS};
 use std::io::{self, Read, Write};
+use std::path::Path;
 use std::process::ExitCode;
 
 /// How a program ends that did not do all it was asked.
@@ -29,7 +30,8 @@ second encode [WRONG]            samples (two bytes, high first) to octets
 second decode MODE [WRONG]       octets to samples, mode 0 to 3
 second listing                   a recording to its lines
 second material KIND SEED N      N samples or octets
-second tells SEED                which material tells which wrong variant";
+second tells SEED                which material tells which wrong variant
+second sequences DIR             the test sequences of appendix II, into the folder";
 
 /// Fills the buffer from standard input as far as the input goes.
 fn piece(most: usize) -> io::Result<Vec<u8>> {
@@ -127,6 +129,14 @@ fn tells(seed: &str) -> Result<(), Fault> {
     Ok(())
 }
 
+/// Writes the test sequences into a folder.
+fn write_sequences(folder: &str) -> Result<(), Fault> {
+    for file in sequences::files(Wrong::None) {
+        std::fs::write(Path::new(folder).join(file.name), file.text())?;
+    }
+    Ok(())
+}
+
 /// Runs the program that the arguments name.
 fn run(words: &[String]) -> Result<(), Fault> {
     let texts: Vec<&str> = words.iter().map(String::as_str).collect();
@@ -136,6 +146,7 @@ fn run(words: &[String]) -> Result<(), Fault> {
         ["listing"] => list(),
         ["material", kind, seed, n] => write_material(kind, seed, n),
         ["tells", seed] => tells(seed),
+        ["sequences", folder] => write_sequences(folder),
         _ => Err(Fault::Usage),
     }
 }

@@ -65,7 +65,7 @@ returns c =
     let b = whole (l .inv .2) (omega arith) odd-weight in
     let f : SFits w32 (toZ w32 (l .first)) = rw (a .is) (fits-abs (omega arith)) in
     let g : SFits w32 (toZ w32 (l .second)) = rw (b .is) (fits-abs (omega arith)) in
-    cc (got16 (c .before .limit), got16 (c .limit2), toZ-ofZ (shr-fits 4096 f), toZ-ofZ (shr-fits 4096 g), a .is, b .is)
+    rw (got16 (c .limit2) ∙ c .limit2 .ensures, got16 (c .before .limit) ∙ c .before .limit .ensures, toZ-ofZ (shr-fits 4096 f), toZ-ofZ (shr-fits 4096 g), a .is, b .is)
 
 pub join-spec : {M : Type 1} → statement M
 join-spec =

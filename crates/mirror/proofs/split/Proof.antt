@@ -2,6 +2,7 @@
 use mathlib.Core.Path.{_∙_}
 use Prim.Native.Nat.{ℕ, _+_, _*_, _-_, _^_, _≤_, _<_}
 use native.Mathlib.Omega.{arith}
+use lib.Dec.{lit<}
 use mir.Syntax.{w32}
 use mir.Val.{toZ, ofZ}
 use mir.Facts.{toZ-ofZ}
@@ -74,8 +75,9 @@ unfolding splitOf lowt hight
 returns c =
     let a = all-a (c .before .before) in
     let b = all-b (c .before .before) in
-    let l : 6482 * 32768 + 6482 * 32768 < 2 ^ 31 = omega arith in
-    cc (got16 (c .before .limit), got16 (c .limit2), toZ-ofZ (shr-fits 8192 (plus-fits a b l)), toZ-ofZ (shr-fits 8192 (less-fits a b l)), plus a b l .is, less a b l .is)
+    let p = plus-fits a b (lit< tt) in
+    let m = less-fits a b (lit< tt) in
+    rw (got16 (c .limit2) ∙ c .limit2 .ensures, got16 (c .before .limit) ∙ c .before .limit .ensures, toZ-ofZ p, toZ-ofZ m, toZ-ofZ (shr-fits 8192 p), toZ-ofZ (shr-fits 8192 m), a .is, b .is)
 
 pub split-spec : {M : Type 1} → statement M
 split-spec =

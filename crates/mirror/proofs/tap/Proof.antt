@@ -27,7 +27,7 @@ add-result c =
 returns : tie.Need-returns
 returns c =
     let s = c .before in
-    cc (toZ-ofZ (add-result c), toZ-ofZ (mul-result c), product c, toZ-ofZ (s .fits .sum))
+    rw (toZ-ofZ (add-result c), toZ-ofZ (mul-result c), product c, toZ-ofZ (s .fits .sum))
 
 pub tap-spec : {M : Type 1} → statement M
 tap-spec = tie.close (tie.spec (λ c κs. tt) mul-result add-result returns)

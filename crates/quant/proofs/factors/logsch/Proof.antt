@@ -1,3 +1,4 @@
+use mathlib.Core.Path.{_∙_}
 use mir.Facts.{toZ-ofZ}
 use Rattle.laws.specs.Back.{got16}
 use Rattle.g722.specs.Quantise.{logsch}
@@ -6,7 +7,7 @@ use Rattle.quant.proofs.factors.logsch.Tie as tie
 
 returns : tie.Need-returns
 unfolding logsch
-returns c = cc (got16 (c .logsc), got16 (c .before .wh-at), toZ-ofZ (c .before .before .before .fits .nbh))
+returns c = let b = c .before .before in rw (got16 (c .logsc) ∙ c .logsc .ensures, got16 (c .before .wh-at) ∙ c .before .wh-at .ensures, b .from-two .ensures, toZ-ofZ (b .before .fits .nbh))
 
 pub logsch-spec : {M : Type 1} → statement M
 logsch-spec = tie.close (tie.spec (λ c κs. tt) (λ c κs. tt) (λ c κs. tt) returns)

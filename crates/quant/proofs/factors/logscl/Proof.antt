@@ -1,3 +1,4 @@
+use mathlib.Core.Path.{_∙_}
 use mir.Facts.{toZ-ofZ}
 use Rattle.laws.specs.Back.{got16}
 use Rattle.g722.specs.Quantise.{logscl}
@@ -6,7 +7,7 @@ use Rattle.quant.proofs.factors.logscl.Tie as tie
 
 returns : tie.Need-returns
 unfolding logscl
-returns c = cc (got16 (c .logsc), got16 (c .before .wl-at), toZ-ofZ (c .before .before .before .fits .nbl))
+returns c = let b = c .before .before in rw (got16 (c .logsc) ∙ c .logsc .ensures, got16 (c .before .wl-at) ∙ c .before .wl-at .ensures, b .from-four .ensures, toZ-ofZ (b .before .fits .nbl))
 
 pub logscl-spec : {M : Type 1} → statement M
 logscl-spec = tie.close (tie.spec (λ c κs. tt) (λ c κs. tt) (λ c κs. tt) returns)

@@ -1,5 +1,5 @@
 -- `low_interval` meets its contract. The invariant: what is counted from place i on, and i, make the whole count.
-use mathlib.Core.Path.{_≡_}
+use mathlib.Core.Path.{_∙_}
 use mathlib.Core.Bool.{true, false}
 use Prim.Native.Nat.{_+_, _-_, _≤_}
 use native.Mathlib.Omega.{arith}
@@ -14,13 +14,13 @@ use Rattle.laws.specs.Back.{got32}
 use Rattle.g722.specs.Tables.{q6}
 use Rattle.g722.specs.Quantise.{level, atOrBelow}
 use Rattle.tables.specs.Entries.{q6-small}
-use Rattle.quant.proofs.Counting.{levels, levelAt, end, on, over}
+use Rattle.quant.proofs.Laws.{as-i32, i32-read}
+use Rattle.quant.proofs.Counting.{Counted, end, on, over}
 use Rattle.quant.proofs.levels.low_interval.Statement.{statement}
 use Rattle.quant.proofs.levels.low_interval.Tie as tie
 
 abbrev Inv-loop : tie.InvT-loop
-Inv-loop size scale q s i₀ i =
-    (i ≤ 29) × (atOrBelow size (levels (toZ w16 scale)) ≡ i + atOrBelow size (drop i (levels (toZ w16 scale))))
+Inv-loop size scale q s i₀ i = Counted size (toZ w16 scale) i
 
 abbrev μ-loop : tie.MeasureT-loop
 μ-loop size scale q s i₀ i = 29 - i
@@ -28,25 +28,23 @@ abbrev μ-loop : tie.MeasureT-loop
 loop-again : tie.Need-loop-again Inv-loop μ-loop
 unfolding q6
 loop-again c =
-    let s = c .before .before .before .before in
-    let i = c .before .before .before .loop .i in
-    let scale = toZ w16 (ofZ w16 (s .args .scale)) in
-    let t : ltZ (pos (s .args .size)) (levelAt scale i) ≡ false = cc (toZ-pos w32 {n = s .args .size} (omega arith), got32 (c .before .level)) in
-    (omega arith, omega (arith, on (s .args .size) i (omega arith) scale t))
+    let b = c .before .before in
+    let s = b .before .before in
+    let t = rw (i32-read (s .fits .size), got32 (c .before .level) ∙ c .before .level .ensures) at (c .if2 .left) in
+    on (s .args .size) (b .before .loop .i) (b .if1 .left) (toZ w16 (ofZ w16 (s .args .scale))) t (b .before .loop .inv)
 
 returns : tie.Need-returns Inv-loop μ-loop
 returns c =
     let s = c .before .before in
-    rw (← toZ-ofZ (s .fits .scale)) (omega (arith, end (s .args .size) (c .before .loop .i) (omega arith) (toZ w16 (ofZ w16 (s .args .scale)))))
+    rw (← toZ-ofZ (s .fits .scale)) (end (s .args .size) (c .before .loop .i) (c .if1 .taken) (toZ w16 (ofZ w16 (s .args .scale))) (c .before .loop .inv))
 
 returns-2 : tie.Need-returns-2 Inv-loop μ-loop
 unfolding q6
 returns-2 c =
-    let s = c .before .before .before .before in
-    let i = c .before .before .before .loop .i in
-    let scale = toZ w16 (ofZ w16 (s .args .scale)) in
-    let t : ltZ (pos (s .args .size)) (levelAt scale i) ≡ true = cc (toZ-pos w32 {n = s .args .size} (omega arith), got32 (c .before .level)) in
-    rw (← toZ-ofZ (s .fits .scale)) (omega (arith, over (s .args .size) i (omega arith) scale t))
+    let b = c .before .before in
+    let s = b .before .before in
+    let t = rw (i32-read (s .fits .size), got32 (c .before .level) ∙ c .before .level .ensures) at (c .if2 .taken) in
+    rw (← toZ-ofZ (s .fits .scale)) (over (s .args .size) (b .before .loop .i) (b .if1 .left) (toZ w16 (ofZ w16 (s .args .scale))) t (b .before .loop .inv))
 
 level-requires : tie.Need-level-requires Inv-loop μ-loop
 unfolding q6
@@ -58,7 +56,7 @@ low-interval-spec =
     (tie.spec
     Inv-loop
     μ-loop
-    (λ c. search needs)
+    (λ c. as-i32 (c .fits .size))
     (λ c. omega arith)
     (λ c. omega arith)
     (λ c. omega arith)
