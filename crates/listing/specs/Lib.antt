@@ -1,2 +1,3 @@
--- What the listing says of a block.
+-- What the listing says of a block, and the sums that document 01 has of it.
 pub mod Listed
+pub mod Sums

@@ -1,0 +1,42 @@
+-- Sums 14 and 15 of document 01, over the definitions.
+-- Assumes nothing.
+use mathlib.Core.Path.{_≡_, refl}
+use mathlib.Core.List.{List, [], _∷_, zipWith}
+use Prim.Native.Nat.{ℕ}
+use lib.IntN.{pos}
+use lib.ListN.{replicate}
+use Rattle.laws.specs.Clamp.{clamp}
+use Rattle.g722.specs.Arithmetic.{add, sub, mul, limit, sameSign, within, equal}
+use Rattle.g722.specs.Tables.{h, qq6, qq5, qq4, qq2, ila}
+use Rattle.g722.specs.Words.{fromFour, fromSix, fromFive, fromTwo}
+use Rattle.g722.specs.Quantise.{inverse, invqal, invqah, inForce, invqbl, scaleAt, scalel, scaleh}
+use Rattle.g722.specs.Band.{term, sums, filtez, filtep, predic, recons}
+use Rattle.g722.specs.Mirror.{sum, coefficient, xd, xs, accumc, accumd}
+use Rattle.g722.specs.Records.{inRange, allInRange, goodPoles, goodFactors, goodLow, goodHigh, goodDecoder, resetBand, resetDecoder}
+use Rattle.g722.specs.Coding.{misfit}
+use Rattle.g722.specs.Decoding.{rlOf, rhOf, rlRow, rhRow, firstOf, secondOf, decoderStep, samplesOf, decoderAfter, notDecoded, decoded, decodeCall}
+use Rattle.block.specs.Check.{bitStep, bitSteps, byteStep, checkFrom, check}
+use Rattle.block.specs.Layout.{body, blockOf}
+use Rattle.block.specs.Calls.{between, allowed, allZero, wellFormed, readCall}
+use Rattle.recording.specs.Play.{said, heard, playCall}
+use Rattle.text.specs.Decimal.{spelled, decimal, signed}
+use Rattle.text.specs.Lines.{blockLine, refusedLine}
+use Rattle.listing.specs.Listed.{listed}
+
+-- the first line of a recording's listing, from the first piece of it
+abbrev first : List ℕ → List ℕ
+first piece = listed (playCall resetDecoder piece (replicate 960 (pos 0)) .answer) 0
+
+-- 14. 512 zero bytes: "refused 7 0"; 511 bytes: "refused 6 0"
+pub zeros : first (replicate 512 0) ≡ 114 ∷ 101 ∷ 102 ∷ 117 ∷ 115 ∷ 101 ∷ 100 ∷ 32 ∷ 55 ∷ 32 ∷ 48 ∷ 10 ∷ []
+unfolding listed playCall readCall check checkFrom byteStep bitSteps bitStep refusedLine decimal spelled
+zeros = refl
+
+pub short : first (replicate 511 0) ≡ 114 ∷ 101 ∷ 102 ∷ 117 ∷ 115 ∷ 101 ∷ 100 ∷ 32 ∷ 54 ∷ 32 ∷ 48 ∷ 10 ∷ []
+unfolding listed playCall readCall refusedLine decimal spelled
+short = refl
+
+-- 15. take 7, block 0, mode 1, the octet FA: "7 0 1 1 0 -1"
+pub one-octet : first (blockOf 7 0 1 (250 ∷ [])) ≡ 55 ∷ 32 ∷ 48 ∷ 32 ∷ 49 ∷ 32 ∷ 49 ∷ 32 ∷ 48 ∷ 32 ∷ 45 ∷ 49 ∷ 10 ∷ []
+unfolding listed playCall readCall check checkFrom byteStep bitSteps bitStep blockOf body wellFormed allowed between allZero heard said blockLine decimal spelled signed decodeCall misfit goodDecoder goodLow goodHigh goodPoles goodFactors inRange allInRange resetDecoder resetBand decoded notDecoded samplesOf decoderAfter decoderStep firstOf secondOf rlOf rhOf rlRow rhRow accumc accumd xd xs sum coefficient h limit clamp add sub mul sameSign within equal inForce invqbl invqal invqah inverse fromFour fromFive fromSix fromTwo qq4 qq5 qq6 qq2 recons predic filtez filtep term sums scalel scaleh scaleAt ila zipWith
+one-octet = refl
