@@ -8,18 +8,18 @@ ghost use Rattle.laws.specs.Outcome.{Outcome, Does};
 ghost use Rattle.g722.specs.Records.{resetCoder, goodCoder};
 ghost use Rattle.g722.specs.Coding.{octetsOf, coderAfter, firstBad, codeCall};
 ghost use Rattle.coder.specs.Step.{runOf};
+use bounds::all_in_range;
+use bounds::both;
+use bounds::good_high;
+use bounds::good_low;
+use bounds::in_range;
+use bounds::reset_band;
 use g722::Band;
 use g722::Coded;
 use g722::Coder;
 pub use pair::high_coded;
 pub use pair::low_coded;
-pub use pair::step;
-use records::all_in_range;
-use records::both;
-use records::good_high;
-use records::good_low;
-use records::in_range;
-use records::reset_band;
+use pair::step;
 
 // A band's code word, and the band after it.
 pub struct Word {

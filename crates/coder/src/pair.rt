@@ -57,7 +57,7 @@ fn octet(ih: u8, il: u8) -> u8
 }
 
 // One pair, x before y.
-pub fn step(c: Coder, x: i16, y: i16) -> Sent
+pub(crate) fn step(c: Coder, x: i16, y: i16) -> Sent
     ensures { λ r. ⌜ r ≡ sentOf c x y ⌝ }
 {
     let past = c.past;

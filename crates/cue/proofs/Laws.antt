@@ -11,7 +11,7 @@ use lib.Seq.{drop-cons, drop-drop, drop-set-lt, take-all}
 use borrow.Author.Tests.{ne-eqb}
 use Rattle.laws.specs.Outcome.{Does}
 use Rattle.laws.specs.Turns.{put-one}
-use Rattle.g722.specs.Cue.{spelt, bytesOf, carrying, dataCall}
+use Rattle.g722.specs.Cue.{spelt, gathered, carrying, dataCall}
 
 -- one octet carries its bits
 pub fill-turn : (k i w : ℕ) (o from : List ℕ) → i < length o → w ≡ getD o i 0 / 2 ^ k * 2 ^ k + spelt 0 (take k (drop (k * i) from))
@@ -28,15 +28,15 @@ fill-end k i n o from h = rw (drop-of-length-le o h, append-nil, take-all i o h)
 
 -- one byte is spelt
 pub gather-turn : (i n w : ℕ) (b from : List ℕ) → i < length b → i < n → w ≡ spelt 0 (take 8 (drop (8 * i) from))
-    → take (i + 1) (set b i w) ++ bytesOf (n - (i + 1)) (drop (8 * (i + 1)) from) ≡ take i b ++ bytesOf (n - i) (drop (8 * i) from)
-unfolding bytesOf
+    → take (i + 1) (set b i w) ++ gathered (n - (i + 1)) (drop (8 * (i + 1)) from) ≡ take i b ++ gathered (n - i) (drop (8 * i) from)
+unfolding gathered
 gather-turn i n w b from h l e =
     let f : 8 * (i + 1) ≡ 8 * i + 8 = omega arith in
     let g : n - i ≡ suc (n - (i + 1)) = omega arith in
     rw (put-one b _ i w h, f, ← drop-drop 8 (8 * i) from, g, ← e)
 
-pub gather-end : (i n m : ℕ) (b from : List ℕ) → length b ≤ i → n ≤ i → take i b ++ bytesOf (n - i) (drop m from) ≡ b
-unfolding bytesOf
+pub gather-end : (i n m : ℕ) (b from : List ℕ) → length b ≤ i → n ≤ i → take i b ++ gathered (n - i) (drop m from) ≡ b
+unfolding gathered
 gather-end i n m b from h l = let z : n - i ≡ 0 = omega arith in rw (z, append-nil, take-all i b h)
 
 -- the bits of octet i end before those of all n do

@@ -10,7 +10,7 @@ use lib.ListN.{length, take, drop, length-take, length-drop, take-append-drop}
 use lib.Seq.{length-take-le, take-at, drop-at}
 use borrow.Author.Tests.{eqb-true}
 use Rattle.laws.specs.Order.{by-test}
-use Rattle.g722.specs.Cue.{bits, bitsOf, spelt, bytesOf, carrying, givenUp, dataNumber, dataCall, putCall, takeCall}
+use Rattle.g722.specs.Cue.{bits, bitsOf, spelt, gathered, carrying, givenUp, dataNumber, dataCall, putCall, takeCall}
 use Rattle.cue.specs.Fills.{passed}
 use Rattle.cue.specs.Bits.{Below, below-take, below-drop, below-bitsOf, length-bits, length-bitsOf, spelt-less, spelt-after, bits-spelt, spelt-bits}
 
@@ -36,8 +36,8 @@ bits-back k (o ∷ rest) from e p =
 byte-back : (x : ℕ) → x < 256 → spelt 0 (bits 8 x) ≡ x
 byte-back x h = ap (λ (n : ℕ). spelt n (bits 8 x)) (sym (div-eq-of-lt h)) ∙ spelt-bits 8 x
 
-bytes-back : (bytes : List ℕ) → Below 256 bytes → bytesOf (length bytes) (bitsOf 8 bytes) ≡ bytes
-unfolding bytesOf bitsOf
+bytes-back : (bytes : List ℕ) → Below 256 bytes → gathered (length bytes) (bitsOf 8 bytes) ≡ bytes
+unfolding gathered bitsOf
 bytes-back [] p = refl
 bytes-back (x ∷ rest) p =
     rw (take-at (bits 8 x) (bitsOf 8 rest) 8 (length-bits 8 x), drop-at (bits 8 x) (bitsOf 8 rest) 8 (length-bits 8 x))

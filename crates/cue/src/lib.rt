@@ -3,7 +3,7 @@ ghost use mathlib.Core.Path.{_≡_};
 ghost use Prim.Native.Nat.{_+_, _*_, _^_, _≤_, _<_};
 ghost use lib.ListN.{length, take, drop, getD};
 ghost use Rattle.laws.specs.Outcome.{Does};
-ghost use Rattle.g722.specs.Cue.{bitsOf, spelt, bytesOf, carrying, dataNumber, putCall, takeCall};
+ghost use Rattle.g722.specs.Cue.{bitsOf, spelt, gathered, carrying, dataNumber, putCall, takeCall};
 ghost use Rattle.cue.specs.Fills.{Fills};
 use g722::Moved;
 
@@ -59,7 +59,7 @@ fn fill(octets: &mut [u8], bytes: &[u8], k: usize)
 // Takes the bytes out of the last k bits of each octet.
 fn gather(octets: &[u8], bytes: &mut [u8], k: usize)
     requires { ⌜ Fills k (length (now octets)) (length (now bytes)) ⌝ }
-    ensures { λ r. ⌜ now (bytes .exit) ≡ bytesOf (length (now (bytes .entry))) (bitsOf k (now (octets .entry))) ⌝ }
+    ensures { λ r. ⌜ now (bytes .exit) ≡ gathered (length (now (bytes .entry))) (bitsOf k (now (octets .entry))) ⌝ }
 {
     let mut j: usize = 0;
     while j < bytes.len() {

@@ -8,7 +8,7 @@ ghost use lib.ListN.{length};
 use g722::Decoder;
 use libc::STDIN_FILENO;
 use libc::STDOUT_FILENO;
-use stream::decode_chunk;
+use pcm::decode_chunk;
 
 // What a chunk leaves: the decoder after it, and whether to read on.
 struct Onward {

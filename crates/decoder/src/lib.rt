@@ -8,19 +8,19 @@ ghost use Rattle.laws.specs.Outcome.{Does};
 ghost use Rattle.g722.specs.Records.{resetDecoder, goodDecoder};
 ghost use Rattle.g722.specs.Decoding.{decodeCall};
 ghost use Rattle.decoder.specs.Step.{runOf};
+use bounds::all_in_range;
+use bounds::both;
+use bounds::good_high;
+use bounds::good_low;
+use bounds::reset_band;
 use g722::Band;
 use g722::Decoded;
 use g722::Decoder;
 use g722::Pairs;
 pub use octet::high_heard;
 pub use octet::low_heard;
-pub use octet::step;
+use octet::step;
 use quant::in_force;
-use records::all_in_range;
-use records::both;
-use records::good_high;
-use records::good_low;
-use records::reset_band;
 
 // A band's heard signal, and the band after it.
 pub struct Signal {

@@ -51,7 +51,7 @@ pub fn high_heard(s: Band, o: u8) -> Signal
 }
 
 // One octet in the mode in force: two samples, and the decoder after them.
-pub fn step(mode: u8, d: Decoder, o: u8) -> Heard
+pub(crate) fn step(mode: u8, d: Decoder, o: u8) -> Heard
     ensures { λ r. ⌜ r ≡ heardOf mode d o ⌝ }
 {
     let low = d.low;

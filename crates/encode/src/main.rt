@@ -5,7 +5,7 @@ use g722::Coded;
 use g722::Coder;
 use libc::STDIN_FILENO;
 use libc::STDOUT_FILENO;
-use stream::encode_chunk;
+use pcm::encode_chunk;
 
 // What a chunk leaves: the coder after it, and whether to read on.
 struct Onward {

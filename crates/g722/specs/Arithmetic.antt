@@ -1,7 +1,7 @@
 -- The arithmetic of section 6 of source 003, with what document 01 fixes.
 -- Assumes nothing.
 use mathlib.Core.Bool.{Bool, not, cond, _&&_}
-use Prim.Native.Nat.{ℕ}
+use Prim.Native.Nat.{ℕ, _^_}
 use lib.IntN.{ℤ, pos, negℤ, _+ℤ_, _-ℤ_, _*ℤ_}
 use lib.Signed.{ltZ, leZ, shrZ}
 use Rattle.laws.specs.Clamp.{clamp}
@@ -9,6 +9,10 @@ use Rattle.laws.specs.Clamp.{clamp}
 -- a negative constant, as it is printed: `neg 11` is -11
 abbrev pub neg : ℕ → ℤ
 neg n = negℤ (pos n)
+
+-- shifted right by so many places, rounding down
+abbrev pub shr : ℤ → ℕ → ℤ
+shr z places = shrZ z (2 ^ places)
 
 -- stops at -32768 and 32767
 abbrev pub stop : ℤ → ℤ
@@ -24,7 +28,7 @@ sub a b = stop (a -ℤ b)
 
 -- A * B: the product shifted right by 15, rounding down. The stop concerns -32768 * -32768 alone
 unfoldable pub mul : ℤ → ℤ → ℤ
-mul a b = stop (shrZ (a *ℤ b) 32768)
+mul a b = stop (shr (a *ℤ b) 15)
 
 -- limited to the range of XIN, XOUT, RL and RH
 unfoldable pub limit : ℤ → ℤ
@@ -42,6 +46,6 @@ sameSign a b = cond (negative a) (negative b) (not (negative b))
 unfoldable pub within : ℤ → ℤ → ℤ → Bool
 within lo hi z = leZ lo z && leZ z hi
 
--- a = b
+-- a = b, as a ≤ b ≤ a
 unfoldable pub equal : ℤ → ℤ → Bool
 equal a b = within a a b

@@ -6,9 +6,8 @@ use mathlib.Core.List.{List, [], _∷_, _++_, zipWith}
 use Prim.Native.Nat.{ℕ}
 use lib.IntN.{ℤ, pos}
 use lib.ListN.{drop}
-use lib.Signed.{shrZ}
 use Rattle.laws.specs.Clamp.{clamp}
-use Rattle.g722.specs.Arithmetic.{neg, add, sub, mul, sameSign, equal}
+use Rattle.g722.specs.Arithmetic.{neg, shr, add, sub, mul, sameSign, equal}
 use Rattle.g722.specs.Quantise.{invqal, invqah, lowFactors, highFactors}
 use Rattle.g722.specs.declared.Zeros.{Zeros}
 use Rattle.g722.specs.declared.Poles.{Poles}
@@ -46,26 +45,27 @@ parrec s d = add d (filtez (s .zeros))
 unfoldable pub recons : Band → ℤ → ℤ
 recons s d = add (predic s) d
 
--- UPZERO: the gain WD1, the signed gain WD2, and one coefficient's next value BPLi
+-- UPZERO: the gain WD1, WD2 with its sign, WD3 = BLi * 32640, and one coefficient's next value BPLi = WD2 + WD3
 unfoldable pub gain : ℤ → ℤ
 gain d = cond (equal d (pos 0)) (pos 0) (pos 128)
 
 unfoldable pub upzero : ℤ → ℤ → ℤ → ℤ
 upzero d bi di = add (cond (sameSign d di) (gain d) (sub (pos 0) (gain d))) (mul bi (pos 32640))
 
--- UPPOL2: AL1 doubled twice, WD2 after its sign and its shift by 7, WD3, and the limited sum APL2
+-- UPPOL2: WD1 = AL1 doubled twice; WD2 = WD1 with its sign turned where P and P1 agree, shifted right by 7;
+-- WD3 = ±128; WD4 = WD2 + WD3; WD5 = AL2 * 32512; and their sum limited, APL2
 unfoldable pub four : ℤ → ℤ
 four a1 = add (add a1 a1) (add a1 a1)
 
 unfoldable pub turned : Poles → ℤ → ℤ
-turned s p = shrZ (cond (sameSign p (s .p1)) (sub (pos 0) (four (s .a1))) (four (s .a1))) 128
+turned s p = shr (cond (sameSign p (s .p1)) (sub (pos 0) (four (s .a1))) (four (s .a1))) 7
 
 unfoldable pub uppol2 : Poles → ℤ → ℤ
 uppol2 s p =
     clamp (neg 12288) (pos 12288)
     (add (add (turned s p) (cond (sameSign p (s .p2)) (pos 128) (neg 128))) (mul (s .a2) (pos 32512)))
 
--- UPPOL1, after the new second coefficient: WD3 = 15360 - APL2 at both ends
+-- UPPOL1, after the new second coefficient: WD1 = ±192, WD2 = AL1 * 32640, and their sum held within WD3 = 15360 - APL2 at both ends
 unfoldable pub reach : ℤ → ℤ
 reach apl2 = sub (pos 15360) apl2
 

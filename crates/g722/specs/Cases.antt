@@ -18,7 +18,7 @@ use Rattle.g722.specs.Octet.{octet}
 use Rattle.g722.specs.Records.{inRange, allInRange, goodPoles, goodFactors, goodLow, goodHigh, goodCoder, goodDecoder, resetBand, resetCoder, resetDecoder}
 use Rattle.g722.specs.Coding.{window, ilOf, ihOf, octetOf, coderStep, octetsOf, coderAfter, firstBad, misfit, notCoded, coded, codeCall}
 use Rattle.g722.specs.Decoding.{rlOf, rhOf, rlRow, rhRow, firstOf, secondOf, decoderStep, samplesOf, decoderAfter, notDecoded, decoded, decodeCall}
-use Rattle.g722.specs.Cue.{bits, bitsOf, spelt, bytesOf, carrying, unfilled, dataNumber, dataCall, putCall, takeCall}
+use Rattle.g722.specs.Cue.{bits, bitsOf, spelt, gathered, carrying, unfilled, dataNumber, dataCall, putCall, takeCall}
 use Rattle.g722.specs.Arithmetic.{neg}
 use Rattle.g722.specs.declared.Poles.{Poles}
 use Rattle.g722.specs.declared.Band.{Band}
@@ -209,5 +209,5 @@ ours =
     ∷ []
 
 pub sums-hold : Hold (sums1to12 ++ ours)
-unfolding sums1to12 ours noise zipWith clamp add sub mul limit sameSign within equal h q6 qq6 qq5 qq4 wl q2 qq2 wh ila toSix fromFour fromSix fromFive toTwo fromTwo level atOrBelow quantise quantl quanth inverse invqal invqah inForce invqbl logsc logscl logsch scaleAt scalel scaleh lowFactors highFactors slide term sums filtez filtep predic parrec recons gain upzero four turned uppol2 reach uppol1 nextZeros nextPoles nextBand lowAfter highAfter sum coefficient xin accuma accumb lowt hight xd xs accumc accumd octet inRange allInRange goodPoles goodFactors goodLow goodHigh goodCoder goodDecoder resetBand resetCoder resetDecoder window ilOf ihOf octetOf coderStep octetsOf coderAfter firstBad misfit notCoded coded codeCall rlOf rhOf rlRow rhRow firstOf secondOf decoderStep samplesOf decoderAfter notDecoded decoded decodeCall bits bitsOf spelt bytesOf carrying unfilled dataNumber dataCall putCall takeCall
+unfolding sums1to12 ours noise zipWith clamp add sub mul limit sameSign within equal h q6 qq6 qq5 qq4 wl q2 qq2 wh ila toSix fromFour fromSix fromFive toTwo fromTwo level atOrBelow quantise quantl quanth inverse invqal invqah inForce invqbl logsc logscl logsch scaleAt scalel scaleh lowFactors highFactors slide term sums filtez filtep predic parrec recons gain upzero four turned uppol2 reach uppol1 nextZeros nextPoles nextBand lowAfter highAfter sum coefficient xin accuma accumb lowt hight xd xs accumc accumd octet inRange allInRange goodPoles goodFactors goodLow goodHigh goodCoder goodDecoder resetBand resetCoder resetDecoder window ilOf ihOf octetOf coderStep octetsOf coderAfter firstBad misfit notCoded coded codeCall rlOf rhOf rlRow rhRow firstOf secondOf decoderStep samplesOf decoderAfter notDecoded decoded decodeCall bits bitsOf spelt gathered carrying unfilled dataNumber dataCall putCall takeCall
 sums-hold = (refl, (refl, (refl, (refl, (refl, (refl, (refl, (refl, (refl, (refl, (refl, (refl, (refl, (refl, (refl, (refl, (refl, (refl, (refl, (refl, (refl, (refl, (refl, (refl, (refl, (refl, (refl, (refl, (refl, (refl, (refl, (refl, (refl, (refl, (refl, (refl, (refl, (refl, (refl, (refl, (refl, (refl, (refl, (refl, (refl, (refl, (refl, (refl, (refl, (refl, (refl, (refl, (refl, (refl, (refl, (refl, (refl, (refl, (refl, (refl, tt))))))))))))))))))))))))))))))))))))))))))))))))))))))))))))

@@ -23,9 +23,9 @@ spelt n [] = n
 spelt n (b ∷ rest) = spelt (n * 2 + b) rest
 
 -- n bytes from their bits
-unfoldable pub bytesOf : ℕ → List ℕ → List ℕ
-bytesOf zero from = []
-bytesOf (suc n) from = spelt 0 (take 8 from) ∷ bytesOf n (drop 8 from)
+unfoldable pub gathered : ℕ → List ℕ → List ℕ
+gathered zero from = []
+gathered (suc n) from = spelt 0 (take 8 from) ∷ gathered n (drop 8 from)
 
 -- octets whose last k bits give way to others
 unfoldable pub carrying : ℕ → List ℕ → List ℕ → List ℕ
@@ -56,4 +56,4 @@ putCall mode octets bytes =
 -- taking it out of octets into lent bytes
 unfoldable pub takeCall : ℕ → List ℕ → List ℕ → Outcome Moved (List ℕ)
 takeCall mode octets bytes =
-    dataCall (dataNumber mode (length octets) (length bytes)) bytes (bytesOf (length bytes) (bitsOf (givenUp mode) octets))
+    dataCall (dataNumber mode (length octets) (length bytes)) bytes (gathered (length bytes) (bitsOf (givenUp mode) octets))

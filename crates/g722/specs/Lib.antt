@@ -10,9 +10,6 @@ pub mod Records
 pub mod Coding
 pub mod Decoding
 pub mod Cue
-pub mod Reach
-pub mod Sent
-pub mod Upper
 pub mod Printed
 pub mod Checks
 pub mod Cases

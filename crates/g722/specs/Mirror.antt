@@ -4,8 +4,7 @@ use mathlib.Core.List.{List}
 use Prim.Native.Nat.{ℕ, zero, suc, _+_, _*_, _-_}
 use lib.IntN.{ℤ, pos, _+ℤ_, _-ℤ_, _*ℤ_}
 use lib.ListN.{getD}
-use lib.Signed.{shrZ}
-use Rattle.g722.specs.Arithmetic.{limit}
+use Rattle.g722.specs.Arithmetic.{shr, limit}
 use Rattle.g722.specs.Tables.{h}
 
 -- f 0 + f 1 + .. + f (n - 1)
@@ -30,10 +29,10 @@ accumb x = sum (λ (i : ℕ). coefficient (2 * i + 1) *ℤ xin x (2 * i + 1)) 12
 
 -- LOWT and HIGHT
 unfoldable pub lowt : List ℤ → ℤ
-lowt x = limit (shrZ (accuma x +ℤ accumb x) 8192)
+lowt x = limit (shr (accuma x +ℤ accumb x) 13)
 
 unfoldable pub hight : List ℤ → ℤ
-hight x = limit (shrZ (accuma x -ℤ accumb x) 8192)
+hight x = limit (shr (accuma x -ℤ accumb x) 13)
 
 -- RECA and RECB: XDi and XSi of twelve pairs, oldest first
 unfoldable pub xd : List ℤ → List ℤ → ℕ → ℤ
@@ -44,7 +43,7 @@ xs rl rh i = getD rl (11 - i) (pos 0) +ℤ getD rh (11 - i) (pos 0)
 
 -- ACCUMC and ACCUMD: XOUT1, the earlier sample, and XOUT2
 unfoldable pub accumc : List ℤ → List ℤ → ℤ
-accumc rl rh = limit (shrZ (sum (λ (i : ℕ). coefficient (2 * i) *ℤ xd rl rh i) 12) 4096)
+accumc rl rh = limit (shr (sum (λ (i : ℕ). coefficient (2 * i) *ℤ xd rl rh i) 12) 12)
 
 unfoldable pub accumd : List ℤ → List ℤ → ℤ
-accumd rl rh = limit (shrZ (sum (λ (i : ℕ). coefficient (2 * i + 1) *ℤ xs rl rh i) 12) 4096)
+accumd rl rh = limit (shr (sum (λ (i : ℕ). coefficient (2 * i + 1) *ℤ xs rl rh i) 12) 12)

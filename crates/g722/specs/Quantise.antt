@@ -77,12 +77,16 @@ logsch ih nbh = logsc (pos 22528) (getD wh (fromTwo ih .number) (pos 0)) nbh
 unfoldable pub scaleAt : ℕ → ℤ
 scaleAt k = pos ((getD ila k 0 + 1) * 4)
 
--- SCALEL and SCALEH, method 1. A log factor is never below 0, so its size is the factor
+-- the address that a log factor gives, NB >> 6. A log factor is never below 0, so its size is the factor
+abbrev pub address : ℤ → ℕ
+address nb = mag nb / 64
+
+-- SCALEL and SCALEH, method 1
 unfoldable pub scalel : ℤ → ℤ
-scalel nbpl = scaleAt (mag nbpl / 64 + 64)
+scalel nbpl = scaleAt (address nbpl + 64)
 
 unfoldable pub scaleh : ℤ → ℤ
-scaleh nbph = scaleAt (mag nbph / 64)
+scaleh nbph = scaleAt (address nbph)
 
 -- both factors after a word
 unfoldable pub lowFactors : Factors → ℕ → Factors

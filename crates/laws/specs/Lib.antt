@@ -1,5 +1,6 @@
 -- What several crates' definitions and proofs are built from.
 pub mod Outcome
+pub mod One
 pub mod Every
 pub mod Rising
 pub mod Order

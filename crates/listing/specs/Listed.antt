@@ -5,7 +5,7 @@ use mathlib.Core.List.{List}
 use Prim.Native.Nat.{ℕ}
 use lib.Dec.{eqb}
 use Rattle.recording.specs.declared.Played.{Played}
-use Rattle.text.specs.Lines.{blockLine, refusedLine}
+use Rattle.lines.specs.Lines.{blockLine, refusedLine}
 
 unfoldable pub listed : Played → ℕ → List ℕ
 listed p before =

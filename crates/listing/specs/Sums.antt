@@ -18,9 +18,9 @@ use Rattle.g722.specs.Decoding.{rlOf, rhOf, rlRow, rhRow, firstOf, secondOf, de
 use Rattle.block.specs.Check.{bitStep, bitSteps, byteStep, checkFrom, check}
 use Rattle.block.specs.Layout.{body, blockOf}
 use Rattle.block.specs.Calls.{between, allowed, allZero, wellFormed, readCall}
-use Rattle.recording.specs.Play.{said, heard, playCall}
-use Rattle.text.specs.Decimal.{spelled, decimal, signed}
-use Rattle.text.specs.Lines.{blockLine, refusedLine}
+use Rattle.recording.specs.Play.{reported, playedFrom, playCall}
+use Rattle.lines.specs.Decimal.{spelled, decimal, signed}
+use Rattle.lines.specs.Lines.{blockLine, refusedLine}
 use Rattle.listing.specs.Listed.{listed}
 
 -- the first line of a recording's listing, from the first piece of it
@@ -38,5 +38,5 @@ short = refl
 
 -- 15. take 7, block 0, mode 1, the octet FA: "7 0 1 1 0 -1"
 pub one-octet : first (blockOf 7 0 1 (250 ∷ [])) ≡ 55 ∷ 32 ∷ 48 ∷ 32 ∷ 49 ∷ 32 ∷ 49 ∷ 32 ∷ 48 ∷ 32 ∷ 45 ∷ 49 ∷ 10 ∷ []
-unfolding listed playCall readCall check checkFrom byteStep bitSteps bitStep blockOf body wellFormed allowed between allZero heard said blockLine decimal spelled signed decodeCall misfit goodDecoder goodLow goodHigh goodPoles goodFactors inRange allInRange resetDecoder resetBand decoded notDecoded samplesOf decoderAfter decoderStep firstOf secondOf rlOf rhOf rlRow rhRow accumc accumd xd xs sum coefficient h limit clamp add sub mul sameSign within equal inForce invqbl invqal invqah inverse fromFour fromFive fromSix fromTwo qq4 qq5 qq6 qq2 recons predic filtez filtep term sums scalel scaleh scaleAt ila zipWith
+unfolding listed playCall readCall check checkFrom byteStep bitSteps bitStep blockOf body wellFormed allowed between allZero playedFrom reported blockLine decimal spelled signed decodeCall misfit goodDecoder goodLow goodHigh goodPoles goodFactors inRange allInRange resetDecoder resetBand decoded notDecoded samplesOf decoderAfter decoderStep firstOf secondOf rlOf rhOf rlRow rhRow accumc accumd xd xs sum coefficient h limit clamp add sub mul sameSign within equal inForce invqbl invqal invqah inverse fromFour fromFive fromSix fromTwo qq4 qq5 qq6 qq2 recons predic filtez filtep term sums scalel scaleh scaleAt ila zipWith
 one-octet = refl

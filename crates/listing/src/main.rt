@@ -2,12 +2,12 @@
 ghost use mathlib.Core.Path.{_≡_};
 ghost use Prim.Native.Nat.{_≤_};
 ghost use lib.ListN.{length};
-ghost use Rattle.text.specs.Lines.{lineOf};
+ghost use Rattle.lines.specs.Lines.{lineOf};
 ghost use Rattle.listing.specs.Listed.{listed};
 use libc::STDIN_FILENO;
 use libc::STDOUT_FILENO;
+use lines::Line;
 use recording::Played;
-use text::Line;
 
 // What the listing says of a block after so many others.
 fn listed(p: Played, before: u64) -> Line
@@ -15,9 +15,9 @@ fn listed(p: Played, before: u64) -> Line
 {
     let number = p.number;
     if number != 0 {
-        return text::refused_line(number, before);
+        return lines::refused_line(number, before);
     }
-    text::block_line(p.take, p.block, p.mode, p.count, p.first, p.last)
+    lines::block_line(p.take, p.block, p.mode, p.count, p.first, p.last)
 }
 
 // Writes out the bytes from a place on.

@@ -14,8 +14,8 @@ use Rattle.g722.specs.Octet.{highWord, lowWord}
 use Rattle.g722.specs.Records.{resetCoder, resetDecoder}
 use Rattle.g722.specs.Coding.{ilOf, ihOf, octetOf, octetsOf, coderStep, coderAfter}
 use Rattle.g722.specs.Decoding.{decoderStep}
-use Rattle.g722.specs.Sent.{quantl-small, low-of-octet, high-of-octet}
-use Rattle.g722.specs.Upper.{upperSix, low-by-four, upper-low, upper-high}
+use Rattle.facts.specs.Sent.{quantl-small, low-of-octet, high-of-octet}
+use Rattle.facts.specs.Upper.{upperSix, low-by-four, upper-low, upper-high}
 use Rattle.g722.specs.declared.Band.{Band}
 use Rattle.g722.specs.declared.Coder.{Coder}
 use Rattle.g722.specs.declared.Decoder.{Decoder}

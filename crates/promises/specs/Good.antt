@@ -16,7 +16,7 @@ use Rattle.g722.specs.Arithmetic.{neg, limit, within, equal}
 use Rattle.g722.specs.Tables.{ila}
 use Rattle.g722.specs.Quantise.{inForce, logsc, logscl, logsch, scaleAt, scalel, scaleh, lowFactors, highFactors}
 use Rattle.g722.specs.Band.{uppol2, uppol1, nextPoles, nextBand, lowAfter, highAfter}
-use Rattle.g722.specs.Reach.{reach-exact, reach-negated}
+use Rattle.facts.specs.Reach.{reach-exact, reach-negated}
 use Rattle.g722.specs.Records.{inRange, allInRange, goodPoles, goodFactors, goodLow, goodHigh, goodCoder, goodDecoder, resetBand, resetCoder, resetDecoder}
 use Rattle.g722.specs.Coding.{window, coderStep, coderAfter, firstBad, coded, codeCall}
 use Rattle.g722.specs.Decoding.{rlOf, rhOf, rlRow, rhRow, decoderStep, decoderAfter, decoded, decodeCall}

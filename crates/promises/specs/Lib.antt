@@ -5,4 +5,3 @@ pub mod Sequences
 pub mod Ends
 pub mod Unheard
 pub mod Running
-pub mod Unique

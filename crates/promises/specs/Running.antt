@@ -13,7 +13,7 @@ use Rattle.g722.specs.declared.Coded.{Coded}
 use Rattle.g722.specs.declared.Decoder.{Decoder}
 use Rattle.g722.specs.declared.Decoded.{Decoded}
 use Rattle.promises.specs.Sequences.{CodeInput, AllCoded, coderThrough, octetsThrough, DecodeInput, AllDecoded, decoderThrough, samplesThrough, allTold}
-use Rattle.g722.specs.Upper.{upperSix}
+use Rattle.facts.specs.Upper.{upperSix}
 use Rattle.promises.specs.Ends.{received, SameBands, records-equal}
 use Rattle.promises.specs.Unheard.{AlikeCalls, samples-unheard, record-unheard}
 

@@ -19,7 +19,7 @@ use Rattle.g722.specs.Band.{recons, highAfter}
 use Rattle.g722.specs.Octet.{lowWord}
 use Rattle.g722.specs.Decoding.{rlOf, rhOf, rlRow, rhRow, firstOf, secondOf, decoderStep, samplesOf, decoderAfter, decoded, decodeCall}
 use Rattle.g722.specs.Mirror.{accumc, accumd}
-use Rattle.g722.specs.Upper.{upperSix, low-by-four, upper-low, upper-high}
+use Rattle.facts.specs.Upper.{upperSix, low-by-four, upper-low, upper-high}
 use Rattle.g722.specs.declared.Decoder.{Decoder}
 use Rattle.promises.specs.Sequences.{DecodeInput, decoderThrough, samplesThrough}
 

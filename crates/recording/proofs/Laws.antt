@@ -19,7 +19,7 @@ use Rattle.block.specs.Layout.{twoAt}
 use Rattle.block.specs.Calls.{between, allowed, allZero, wellFormed, refused, readCall}
 use Rattle.block.specs.declared.BlockRead.{BlockRead}
 use Rattle.recording.specs.Walk.{ended, stood, stepAt}
-use Rattle.recording.specs.Play.{notPlayed, said, heard, playCall}
+use Rattle.recording.specs.Play.{notPlayed, reported, playedFrom, playCall}
 use Rattle.recording.specs.declared.Played.{Played}
 
 -- ---- block number `at` of a recording
@@ -83,29 +83,29 @@ module _ (d : Decoder) (b : List ℕ) (samples : List ℤ) (r : BlockRead) (e : 
     play-narrow k = rw (← e, eq-eqb (r .number) 0 h, lt-ltb (length samples) (2 * r .count) k)
 
     pub play-heard : 2 * r .count ≤ length samples
-        → playCall d b samples ≡ heard d r (decodeCall d (r .mode) (take (r .count) (drop 12 b)) (take (2 * r .count) samples)) (drop (2 * r .count) samples)
+        → playCall d b samples ≡ playedFrom d r (decodeCall d (r .mode) (take (r .count) (drop 12 b)) (take (2 * r .count) samples)) (drop (2 * r .count) samples)
     unfolding playCall
     play-heard k = rw (← e, eq-eqb (r .number) 0 h, le-ltb (length samples) (2 * r .count) k)
 
     -- from the call as the code makes it
     pub played : 2 * r .count ≤ length samples → {done : Decoded} {last : List ℤ} {answer : Played}
         → Does (decodeCall d (r .mode) (take (12 + r .count - 12) (drop 12 b)) (take (2 * r .count) samples)) done last
-        → answer ≡ said d r done (last ++ drop (2 * r .count) samples)
+        → answer ≡ reported d r done (last ++ drop (2 * r .count) samples)
         → Does (playCall d b samples) answer (last ++ drop (2 * r .count) samples)
-    unfolding heard
+    unfolding playedFrom
     played k x a =
         let n : 12 + r .count - 12 ≡ r .count = omega arith in
         let y = rw n at x in
         let rest = drop (2 * r .count) samples in
-        does (play-heard k) (a ∙ λ i. said d r (y .answer i) (y .left i ++ rest)) (λ i. y .left i ++ rest)
+        does (play-heard k) (a ∙ λ i. reported d r (y .answer i) (y .left i ++ rest)) (λ i. y .left i ++ rest)
 
--- what is said, from the decoder's answer
+-- what is reported, from the decoder's answer
 module _ (d : Decoder) (r : BlockRead) (done : Decoded) (samples : List ℤ) where
-  pub said-refused : (done .number ≡ 0 → ⊥) → said d r done samples ≡ notPlayed (done .number) d
-  unfolding said
+  pub said-refused : (done .number ≡ 0 → ⊥) → reported d r done samples ≡ notPlayed (done .number) d
+  unfolding reported
   said-refused h = rw (ne-eqb (done .number) 0 h)
 
   pub said-done : done .number ≡ 0 → {first last : ℤ} → first ≡ getD samples 0 (pos 0) → last ≡ getD samples (2 * r .count - 1) (pos 0)
-      → record { number = 0; index = 0; next = done .next; take = r .take; block = r .block; mode = r .mode; count = r .count; first = first; last = last } ≡ said d r done samples
-  unfolding said
+      → record { number = 0; index = 0; next = done .next; take = r .take; block = r .block; mode = r .mode; count = r .count; first = first; last = last } ≡ reported d r done samples
+  unfolding reported
   said-done h f l = rw (eq-eqb (done .number) 0 h, f, l)

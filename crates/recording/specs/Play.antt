@@ -20,8 +20,8 @@ notPlayed number d =
     record { number = number; index = 0; next = d; take = 0; block = 0; mode = 0; count = 0; first = pos 0; last = pos 0 }
 
 -- what is said of a block that read well, from the decoder's answer and the samples after it
-unfoldable pub said : Decoder → BlockRead → Decoded → List ℤ → Played
-said d b done samples =
+unfoldable pub reported : Decoder → BlockRead → Decoded → List ℤ → Played
+reported d b done samples =
     cond (not (eqb (done .number) 0)) (notPlayed (done .number) d)
     (record {
       number = 0;
@@ -36,8 +36,8 @@ said d b done samples =
     })
 
 -- the decoder is lent the octets from byte 12 and as many pairs of samples; the samples behind them stay
-unfoldable pub heard : Decoder → BlockRead → Outcome Decoded (List ℤ) → List ℤ → Outcome Played (List ℤ)
-heard d b x rest = record { answer = said d b (x .answer) (x .left ++ rest); left = x .left ++ rest }
+unfoldable pub playedFrom : Decoder → BlockRead → Outcome Decoded (List ℤ) → List ℤ → Outcome Played (List ℤ)
+playedFrom d b x rest = record { answer = reported d b (x .answer) (x .left ++ rest); left = x .left ++ rest }
 
 -- reading's refusals, 6, 7 and 8, then 3 where the samples are too few for the octets, then the decoder's
 unfoldable pub playCall : Decoder → List ℕ → List ℤ → Outcome Played (List ℤ)
@@ -45,6 +45,6 @@ playCall d b samples =
     cond (not (eqb (readCall b .number) 0))
     (record { answer = notPlayed (readCall b .number) d; left = samples })
     (cond (ltb (length samples) (2 * readCall b .count)) (record { answer = notPlayed 3 d; left = samples })
-    (heard d (readCall b)
+    (playedFrom d (readCall b)
     (decodeCall d (readCall b .mode) (take (readCall b .count) (drop 12 b)) (take (2 * readCall b .count) samples))
     (drop (2 * readCall b .count) samples)))

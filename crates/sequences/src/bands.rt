@@ -1,12 +1,12 @@
 // Sub-blocks INFA to INFD: the words of the sequences around the sub-band coders and decoders.
 ghost use Prim.Native.Nat.{_≤_};
 use arith::add;
+use bounds::reset_band;
 use coder::high_coded;
 use coder::low_coded;
 use decoder::high_heard;
 use decoder::low_heard;
 use g722::Band;
-use records::reset_band;
 
 // Both bands, of which a decoder moves only its own.
 struct Bands {
@@ -63,11 +63,11 @@ fn coded(s: Bands, x: i16) -> Output {
 }
 
 // The word RL# or RH# of a decoder's signal: its 15 bits, and a 0 that marks it as valid.
-fn heard(signal: i16, low: Band, high: Band) -> Output {
+fn band_output(signal: i16, low: Band, high: Band) -> Output {
     let word = add(signal, signal);
     Output {
-        first: wire::high(word),
-        second: wire::low(word),
+        first: pcm::high(word),
+        second: pcm::low(word),
         next: Bands {
             low: low,
             high: high,
@@ -81,7 +81,7 @@ fn low_word(mode: u8, s: Bands, o: u8) -> Output {
     let high = s.high;
     let t = low_heard(mode, low, o);
     let next = t.next;
-    heard(t.signal, next, high)
+    band_output(t.signal, next, high)
 }
 
 // The high decoder's word of an octet.
@@ -90,7 +90,7 @@ fn high_word(s: Bands, o: u8) -> Output {
     let high = s.high;
     let t = high_heard(high, o);
     let next = t.next;
-    heard(t.signal, low, next)
+    band_output(t.signal, low, next)
 }
 
 // What the coders (D or d) or a decoder make of one word.
@@ -101,7 +101,7 @@ fn made(maker: u8, s: Bands, first: u8, second: u8) -> Output {
     match maker {
         48 => high_word(s, first),
         49..=51 => low_word(maker - 48, s, first),
-        _ => coded(s, wire::sample(first, second)),
+        _ => coded(s, pcm::sample(first, second)),
     }
 }
 

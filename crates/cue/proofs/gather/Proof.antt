@@ -5,7 +5,7 @@ use Prim.Native.Nat.{_*_, _-_}
 use native.Mathlib.Nat.{sub-zero}
 use native.Mathlib.Omega.{arith}
 use lib.ListN.{length, take, drop, length-set}
-use Rattle.g722.specs.Cue.{bitsOf, bytesOf}
+use Rattle.g722.specs.Cue.{bitsOf, gathered}
 use Rattle.cue.proofs.Laws.{gather-turn, gather-end}
 use Rattle.cue.proofs.gather.Statement.{statement}
 use Rattle.cue.proofs.gather.Tie as tie
@@ -13,7 +13,7 @@ use Rattle.cue.proofs.gather.Tie as tie
 abbrev Inv-loop : tie.InvT-loop
 Inv-loop octets bytes₀ k j₀ bytes j =
     (length bytes ≡ length bytes₀)
-    × (take j bytes ++ bytesOf (length bytes₀ - j) (drop (8 * j) (bitsOf k octets)) ≡ bytesOf (length bytes₀) (bitsOf k octets))
+    × (take j bytes ++ gathered (length bytes₀ - j) (drop (8 * j) (bitsOf k octets)) ≡ gathered (length bytes₀) (bitsOf k octets))
 
 abbrev μ-loop : tie.MeasureT-loop
 μ-loop octets bytes₀ k j₀ bytes j = length bytes₀ - j

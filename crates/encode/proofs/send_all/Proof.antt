@@ -1,5 +1,5 @@
 -- `encode::send_all` meets its contract: the index of a refusal lies in the chunk.
-use Rattle.stream.specs.Chunks.{index-within}
+use Rattle.pcm.specs.Chunks.{index-within}
 use borrow.Author.Needs.{needs}
 use Rattle.encode.proofs.send_all.Statement.{statement}
 use Rattle.encode.proofs.send_all.Tie as tie

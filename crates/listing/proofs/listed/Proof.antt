@@ -1,6 +1,6 @@
 -- `listing::listed` meets its contract: the definition makes the same test.
 use Rattle.laws.specs.Back.{back16}
-use Rattle.text.specs.Lines.{lineOf, blockLine}
+use Rattle.lines.specs.Lines.{lineOf, blockLine}
 use mathlib.Core.Path.{_∙_}
 use borrow.Author.Tests.{eq-eqb, ne-eqb}
 use Rattle.listing.specs.Listed.{listed}

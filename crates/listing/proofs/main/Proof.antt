@@ -1,6 +1,6 @@
 -- `listing::main` is safe and ends. The measure is the number of turns that are left.
 use mathlib.Core.Path.{_≡_}
-use Rattle.text.specs.Lines.{lineOf}
+use Rattle.lines.specs.Lines.{lineOf}
 use Prim.Native.Nat.{ℕ, _-_, _^_}
 use lib.IntN.{pos}
 use lib.ListN.{length, length-replicate}

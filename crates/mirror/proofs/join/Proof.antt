@@ -12,7 +12,7 @@ use Rattle.laws.specs.Size.{fits-abs, shr-fits}
 use Rattle.g722.specs.Tables.{h}
 use Rattle.g722.specs.Mirror.{coefficient, xd, xs, accumc, accumd}
 use Rattle.mirror.specs.Filters.{joinOf}
-use Rattle.mirror.proofs.Sums.{Read, heard, plus, plus-fits, less, less-fits, Summed, none, room, more, whole, even, odd, even-weight, odd-weight}
+use Rattle.mirror.proofs.Sums.{Read, is-read, plus, plus-fits, less, less-fits, Summed, none, room, more, whole, even, odd, even-weight, odd-weight}
 use Rattle.mirror.proofs.join.Statement.{statement}
 use Rattle.mirror.proofs.join.Tie as tie
 
@@ -29,10 +29,10 @@ module _ (c : tie.After-wide2 Inv-loop μ-loop) where
   loop = c .before .before .before .before .before
 
   low : Read 32768 (toZ w32 (ofZ w32 (c .before .before .wide .result))) (getD (loop .before .args .rl .now) (11 - loop .loop .j) (pos 0))
-  low = heard (c .before .before .before .wide-arg .given) (c .before .before .wide .ok) (c .before .before .wide .ensures)
+  low = is-read (c .before .before .before .wide-arg .given) (c .before .before .wide .ok) (c .before .before .wide .ensures)
 
   high : Read 32768 (toZ w32 (ofZ w32 (c .wide2 .result))) (getD (loop .before .args .rh .now) (11 - loop .loop .j) (pos 0))
-  high = heard (c .before .wide-arg2 .given) (c .wide2 .ok) (c .wide2 .ensures)
+  high = is-read (c .before .wide-arg2 .given) (c .wide2 .ok) (c .wide2 .ensures)
 
 tap-requires : tie.Need-tap-requires Inv-loop μ-loop
 unfolding coefficient h xd

@@ -11,7 +11,7 @@ use Rattle.laws.specs.Size.{shr-fits}
 use Rattle.g722.specs.Tables.{h}
 use Rattle.g722.specs.Mirror.{coefficient, xin, accuma, accumb, lowt, hight}
 use Rattle.mirror.specs.Filters.{splitOf}
-use Rattle.mirror.proofs.Sums.{Read, heard, plus, plus-fits, less, less-fits, Summed, none, room, more, whole, even, odd, even-weight, odd-weight}
+use Rattle.mirror.proofs.Sums.{Read, is-read, plus, plus-fits, less, less-fits, Summed, none, room, more, whole, even, odd, even-weight, odd-weight}
 use Rattle.mirror.proofs.split.Statement.{statement}
 use Rattle.mirror.proofs.split.Tie as tie
 
@@ -29,7 +29,7 @@ module _ (c : tie.After-wide Inv-loop μ-loop) where
 
   sample-a : Read 32768 (toZ w32 (ofZ w32 (c .wide .result))) (xin (loop .before .args .x .now) (2 * loop .loop .i))
   unfolding xin
-  sample-a = heard (c .before .wide-arg .given) (c .wide .ok) (c .wide .ensures)
+  sample-a = is-read (c .before .wide-arg .given) (c .wide .ok) (c .wide .ensures)
 
 module _ (c : tie.After-wide2 Inv-loop μ-loop) where
   abbrev loop2 : tie.At-loop Inv-loop μ-loop
@@ -37,7 +37,7 @@ module _ (c : tie.After-wide2 Inv-loop μ-loop) where
 
   sample-b : Read 32768 (toZ w32 (ofZ w32 (c .wide2 .result))) (xin (loop2 .before .args .x .now) (2 * loop2 .loop .i + 1))
   unfolding xin
-  sample-b = heard (c .before .wide-arg2 .given) (c .wide2 .ok) (c .wide2 .ensures)
+  sample-b = is-read (c .before .wide-arg2 .given) (c .wide2 .ok) (c .wide2 .ensures)
 
 tap-requires : tie.Need-tap-requires Inv-loop μ-loop
 unfolding coefficient h

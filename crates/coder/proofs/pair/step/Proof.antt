@@ -2,7 +2,7 @@ use mathlib.Core.Path.{ap, _∙_}
 use mathlib.Core.List.{[], _∷_, _++_}
 use mir.Facts.{toZ-ofZ}
 use Rattle.laws.specs.Back.{back16}
-use Rattle.g722.specs.Sent.{quantl-small, quanth-small}
+use Rattle.facts.specs.Sent.{quantl-small, quanth-small}
 use Rattle.coder.specs.Step.{lowCoded, highCoded}
 use Rattle.coder.proofs.Laws.{pair-sent}
 use Rattle.coder.proofs.pair.step.Statement.{statement}

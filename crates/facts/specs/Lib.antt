@@ -1,0 +1,4 @@
+-- What follows from the definitions of `g722`, and several crates cite.
+pub mod Reach
+pub mod Sent
+pub mod Upper

@@ -1,0 +1,46 @@
+-- `pcm::decode_chunk` meets its contract: each way out is a case of the definition.
+use mathlib.Core.Path.{refl, sym}
+use native.Mathlib.Omega.{arith}
+use lib.Seq.{length-take-le}
+use Rattle.laws.specs.Outcome.{does}
+use Rattle.pcm.specs.Chunks.{notStored}
+use Rattle.pcm.proofs.Calls.{decode-untold, decode-long, decode-uneven}
+use borrow.Author.Needs.{needs}
+use Rattle.pcm.proofs.chunk.decode_chunk.Statement.{statement}
+use Rattle.pcm.proofs.chunk.decode_chunk.Tie as tie
+
+returns : tie.Need-returns
+unfolding notStored
+returns c = does (decode-untold _ _ _ _ (omega arith)) (c .not-decoded .ensures) refl
+
+returns-2 : tie.Need-returns-2
+unfolding notStored
+returns-2 c = does (decode-long _ _ _ _ (omega arith) (omega arith)) (c .not-decoded2 .ensures) refl
+
+returns-3 : tie.Need-returns-3
+unfolding notStored
+returns-3 c = does (decode-uneven _ _ _ _ (omega arith) (omega arith) (c .before .if3 .taken)) (c .not-decoded3 .ensures) refl
+
+slice-aggregate-decode-and-store : tie.Need-slice-aggregate-decode-and-store
+slice-aggregate-decode-and-store c = sym (length-take-le _ _ (omega arith))
+
+decode-and-store-requires : tie.Need-decode-and-store-requires
+decode-and-store-requires c κs = (length-take-le _ _ (omega arith), c .before .before .if3 .left)
+
+pub decode-chunk-spec : {M : Type 1} → statement M
+decode-chunk-spec =
+    tie.close
+    (tie.spec
+    (λ c κs. search needs)
+    returns
+    (λ c κs. search needs)
+    returns-2
+    (λ c. search needs)
+    (λ c κs. search needs)
+    returns-3
+    (λ c. search needs)
+    (λ c. search needs)
+    slice-aggregate-decode-and-store
+    decode-and-store-requires
+    (λ c. search needs)
+    (λ c. search needs))

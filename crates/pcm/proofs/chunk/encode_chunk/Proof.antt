@@ -1,0 +1,46 @@
+-- `pcm::encode_chunk` meets its contract: each way out is a case of the definition.
+use mathlib.Core.Path.{refl, sym}
+use native.Mathlib.Omega.{arith}
+use lib.Seq.{length-take-le}
+use Rattle.laws.specs.Outcome.{does}
+use Rattle.g722.specs.Coding.{notCoded}
+use Rattle.pcm.proofs.Calls.{encode-long, encode-uneven, encode-even, part}
+use borrow.Author.Needs.{needs}
+use Rattle.pcm.proofs.chunk.encode_chunk.Statement.{statement}
+use Rattle.pcm.proofs.chunk.encode_chunk.Tie as tie
+
+returns : tie.Need-returns
+unfolding notCoded
+returns c = does (encode-long _ _ _ (omega arith)) (c .not-coded .ensures) refl
+
+returns-2 : tie.Need-returns-2
+unfolding notCoded
+returns-2 c = does (encode-uneven _ _ _ (c .before .if2 .taken)) (c .not-coded2 .ensures) refl
+
+slice-aggregate-load-and-code : tie.Need-slice-aggregate-load-and-code
+slice-aggregate-load-and-code c = sym (length-take-le _ _ (omega arith))
+
+load-and-code-requires : tie.Need-load-and-code-requires
+load-and-code-requires c κs = part _ _ _ (c .before .before .if2 .left) (omega arith)
+
+returns-3 : tie.Need-returns-3
+returns-3 c =
+    let r = c .before .before .before in
+    let e = r .before .before .before in
+    does (encode-even _ _ _ (e .if2 .left)) (r .load-and-code .ensures .answer) (r .load-and-code .ensures .left)
+
+pub encode-chunk-spec : {M : Type 1} → statement M
+encode-chunk-spec =
+    tie.close
+    (tie.spec
+    (λ c κs. search needs)
+    returns
+    (λ c. search needs)
+    (λ c κs. search needs)
+    returns-2
+    (λ c. search needs)
+    (λ c. search needs)
+    slice-aggregate-load-and-code
+    load-and-code-requires
+    (λ c. search needs)
+    returns-3)

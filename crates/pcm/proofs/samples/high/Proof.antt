@@ -1,0 +1,14 @@
+use mathlib.Core.Path.{ap, _∙_}
+use Prim.Native.Nat.{ℕ, _/_}
+use mir.Facts.{toZ-ofZ}
+use borrow.Author.Needs.{needs}
+use Rattle.pcm.specs.Bytes.{wordOf, highOf}
+use Rattle.pcm.proofs.samples.high.Statement.{statement}
+use Rattle.pcm.proofs.samples.high.Tie as tie
+
+returns : tie.Need-returns
+unfolding highOf
+returns c = ap (λ (n : ℕ). n / 256) (c .word .ensures ∙ ap wordOf (toZ-ofZ (c .before .fits .x)))
+
+pub high-spec : {M : Type 1} → statement M
+high-spec = tie.close (tie.spec (λ c κs. tt) (λ c. search needs) returns)
