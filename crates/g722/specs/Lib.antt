@@ -12,4 +12,8 @@ pub mod Decoding
 pub mod Cue
 pub mod Printed
 pub mod Checks
-pub mod Cases
+pub mod Steady
+pub mod Opened
+pub mod Case
+pub mod Sums
+pub mod Telling

@@ -4,6 +4,7 @@ pub mod One
 pub mod Every
 pub mod Rising
 pub mod Order
+pub mod Products
 pub mod Clamp
 pub mod Size
 pub mod Back

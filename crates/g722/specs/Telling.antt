@@ -1,0 +1,301 @@
+-- Cases of ours that tell a wrong definition, table by table. Each value was worked out by hand or by a model, and not by these definitions.
+-- Assumes nothing.
+use mathlib.Core.Path.{refl}
+use mathlib.Core.Bool.{cond}
+use mathlib.Core.List.{List, [], _∷_, _++_, map}
+use lib.IntN.{ℤ, pos, negℤ}
+use lib.ListN.{drop, take, replicate}
+use lib.Signed.{mag}
+use Rattle.g722.specs.Arithmetic.{neg, mul, limit, negative, sameSign}
+use Rattle.g722.specs.Tables.{h, q6}
+use Rattle.g722.specs.Quantise.{level, quantise, quanth, invqal, invqah, invqbl, logscl, logsch}
+use Rattle.g722.specs.Band.{slide, sums, filtep, predic, parrec, recons, upzero, four, turned, uppol2, uppol1, nextPoles, nextBand}
+use Rattle.g722.specs.Mirror.{lowt, hight, accumc, accumd}
+use Rattle.g722.specs.Records.{resetBand, resetCoder, resetDecoder}
+use Rattle.g722.specs.Coding.{coderStep, misfit, codeCall}
+use Rattle.g722.specs.Decoding.{rlOf, rhOf, decoderStep, decodeCall}
+use Rattle.g722.specs.Cue.{unfilled, putCall, takeCall}
+use Rattle.g722.specs.Opened.{meaning}
+use Rattle.g722.specs.Case.{Case, _gives_, Hold, all-hold, these, truths, heard, codes, decodes, moves}
+use Rattle.g722.specs.declared.Zeros.{Zeros}
+use Rattle.g722.specs.declared.Poles.{Poles}
+use Rattle.g722.specs.declared.Band.{Band}
+use Rattle.g722.specs.declared.Coder.{Coder}
+use Rattle.g722.specs.declared.Decoder.{Decoder}
+
+-- ---- records to ask about
+
+abbrev poles : ℤ → ℤ → ℤ → ℤ → ℤ → ℤ → Poles
+poles a1 a2 r1 r2 p1 p2 = record { a1 = a1; a2 = a2; r1 = r1; r2 = r2; p1 = p1; p2 = p2 }
+
+abbrev still : ℤ → ℤ → Poles
+still a1 a2 = poles a1 a2 (pos 0) (pos 0) (pos 0) (pos 0)
+
+abbrev band : Poles → ℤ → ℤ → Band
+band s log scale = record { zeros = resetBand (pos 0) .zeros; poles = s; factors = record { log = log; scale = scale } }
+
+abbrev low : Band
+low = resetBand (pos 32)
+
+abbrev high : Band
+high = resetBand (pos 8)
+
+-- with pole coefficients, the first and the second
+abbrev lowWith : ℤ → ℤ → Band
+lowWith a1 a2 = band (still a1 a2) (pos 0) (pos 32)
+
+abbrev highWith : ℤ → ℤ → Band
+highWith a1 a2 = band (still a1 a2) (pos 0) (pos 8)
+
+-- with a log factor and a scale factor
+abbrev scaled : ℤ → ℤ → Band
+scaled log scale = band (still (pos 0) (pos 0)) log scale
+
+-- at full swing: its prediction stops at 32767
+abbrev swung : Band
+swung = band (poles (pos 27648) (neg 12288) (pos 32767) (neg 32768) (pos 0) (pos 0)) (pos 0) (pos 32)
+
+-- with both parts of the predictor at work
+abbrev busy : Band
+busy =
+    record {
+      zeros = record { b = replicate 5 (pos 0) ++ (pos 16384 ∷ []); d = replicate 5 (pos 0) ++ (pos 100 ∷ []) };
+      poles = poles (pos 8192) (neg 8192) (pos 200) (pos 80) (pos 0) (pos 0);
+      factors = record { log = pos 0; scale = pos 32 };
+    }
+
+-- all the numbers of a band
+abbrev flat : Band → List ℤ
+flat s =
+    let p = s .poles in
+    s .zeros .b ++ s .zeros .d ++ (p .a1 ∷ p .a2 ∷ p .r1 ∷ p .r2 ∷ p .p1 ∷ p .p2 ∷ s .factors .log ∷ s .factors .scale ∷ [])
+
+abbrev coder : Band → Band → ℤ → Coder
+coder l r oldest = record { low = l; high = r; past = oldest ∷ replicate 21 (pos 0) }
+
+abbrev decoder : Band → Band → ℤ → ℤ → Decoder
+decoder l r rl rh =
+    record { low = l; high = r; past = record { rl = rl ∷ replicate 10 (pos 0); rh = replicate 10 (pos 0) ++ (rh ∷ []) } }
+
+-- the numbers that empty calls give to records, as a host might hand them in
+abbrev coderNumbers : List Coder → List ℤ
+coderNumbers cs = map (λ (c : Coder). pos (codeCall c [] [] .answer .number)) cs
+
+abbrev decoderNumbers : List Decoder → List ℤ
+decoderNumbers ds = map (λ (d : Decoder). pos (decodeCall d 0 [] [] .answer .number)) ds
+
+-- the loudest samples that have these signs
+abbrev loudest : List ℤ → List ℤ
+loudest xs = map (λ (x : ℤ). cond (negative x) (neg 16384) (pos 16383)) xs
+
+abbrev turnedRound : List ℤ → List ℤ
+turnedRound xs = map negℤ xs
+
+-- every second entry, from the first or the second on; and all, every second one negated
+abbrev evens : List ℤ → List ℤ
+evens [] = []
+evens (x ∷ []) = x ∷ []
+evens (x ∷ y ∷ rest) = x ∷ evens rest
+
+abbrev odds : List ℤ → List ℤ
+odds xs = evens (drop 1 xs)
+
+abbrev alternating : List ℤ → List ℤ
+alternating [] = []
+alternating (x ∷ []) = negℤ x ∷ []
+alternating (x ∷ y ∷ rest) = negℤ x ∷ y ∷ alternating rest
+
+-- one loud sample among zeros, the oldest or the newest of so many
+abbrev firstOf24 : List ℤ
+firstOf24 = pos 16383 ∷ replicate 23 (pos 0)
+
+abbrev lastOf24 : List ℤ
+lastOf24 = replicate 23 (pos 0) ++ (pos 16383 ∷ [])
+
+abbrev lastOf12 : List ℤ
+lastOf12 = replicate 11 (pos 0) ++ (pos 16383 ∷ [])
+
+-- ---- the cases
+
+-- a product rounds down, its one overflow is 32767, sizes are not negations, and the limits hold at both ends
+pub arithmetic : List Case
+arithmetic =
+    ((mul (neg 1616) (pos 8) ∷ mul (neg 32768) (neg 32768) ∷ []) gives (neg 1 ∷ pos 32767 ∷ []))
+    ∷ (these (mag (neg 1) ∷ mag (neg 32768) ∷ []) gives these (0 ∷ 32767 ∷ []))
+    ∷ ((limit (neg 16385) ∷ limit (neg 16384) ∷ limit (pos 16383) ∷ limit (pos 16384) ∷ [])
+    gives (neg 16384 ∷ neg 16384 ∷ pos 16383 ∷ pos 16383 ∷ []))
+    ∷ (truths (sameSign (pos 0) (pos 1) ∷ sameSign (neg 1) (pos 0) ∷ sameSign (neg 1) (neg 2) ∷ []) gives these (1 ∷ 0 ∷ 1 ∷ []))
+    ∷ []
+
+pub arithmetic-hold : Hold arithmetic
+unfolding arithmetic meaning
+arithmetic-hold = all-hold arithmetic refl
+
+-- three levels are 0 at scale 32, so size 0 is interval 4; the high band's one level; the differences of the loop and of each mode
+pub quantising : List Case
+quantising =
+    (map (level (pos 32)) (take 4 (drop 1 q6)) gives these (0 ∷ 0 ∷ 0 ∷ 1 ∷ []))
+    ∷ (these (quantise (drop 1 q6) (pos 0) (pos 32) .number ∷ []) gives these (4 ∷ []))
+    ∷ (these (quanth (pos 0) (pos 8) ∷ quanth (pos 1) (pos 8) ∷ quanth (neg 1) (pos 8) ∷ quanth (neg 2) (pos 8) ∷ [])
+    gives these (3 ∷ 2 ∷ 1 ∷ 0 ∷ []))
+    ∷ ((invqal 0b000100 (pos 1000) ∷ invqal 0b000111 (pos 1000) ∷ invqal 0b000011 (pos 1000) ∷ invqal 0b100000 (pos 1000) ∷ [])
+    gives (neg 625 ∷ neg 625 ∷ pos 0 ∷ pos 624 ∷ []))
+    ∷ ((invqah 0b00 (pos 1000) ∷ invqah 0b01 (pos 1000) ∷ invqah 0b10 (pos 1000) ∷ invqah 0b11 (pos 1000) ∷ [])
+    gives (neg 227 ∷ neg 50 ∷ pos 226 ∷ pos 49 ∷ []))
+    ∷ ((invqbl 1 0b000100 (pos 1000) ∷ invqbl 2 0b000100 (pos 1000) ∷ invqbl 3 0b000100 (pos 1000) ∷ [])
+    gives (neg 758 ∷ neg 713 ∷ neg 625 ∷ []))
+    ∷ (heard 0 (0xFF ∷ []) gives (neg 1 ∷ pos 0 ∷ []))
+    ∷ ((logscl 0b111100 (pos 0) ∷ logsch 0b11 (pos 0) ∷ logsch 0b10 (pos 22528) ∷ []) gives (pos 0 ∷ pos 0 ∷ pos 22528 ∷ []))
+    ∷ ((logscl 0b111100 (pos 18367) ∷ logsch 0b11 (pos 18367) ∷ []) gives (pos 18163 ∷ pos 18009 ∷ []))
+    ∷ []
+
+pub quantising-hold : Hold quantising
+unfolding quantising meaning
+quantising-hold = all-hold quantising refl
+
+-- FILTEZ stops at each sum from the oldest on, FILTEP at its sum; what the prediction, the partial and the reconstructed signal are made of
+pub predicting : List Case
+predicting =
+    ((sums (pos 0) (pos 30000 ∷ pos 30000 ∷ neg 30000 ∷ []) ∷ []) gives (pos 2767 ∷ []))
+    ∷ ((filtep (swung .poles) ∷ []) gives (pos 32767 ∷ []))
+    ∷ ((predic busy ∷ parrec busy (pos 7) ∷ recons busy (pos 7) ∷ []) gives (pos 160 ∷ pos 107 ∷ pos 167 ∷ []))
+    ∷ (slide (pos 1 ∷ pos 2 ∷ pos 3 ∷ []) (pos 4) gives these (2 ∷ 3 ∷ 4 ∷ []))
+    ∷ []
+
+pub predicting-hold : Hold predicting
+unfolding predicting meaning
+predicting-hold = all-hold predicting refl
+
+-- signs and gains of UPZERO; the stops and limits of UPPOL2 and UPPOL1; the loop keeps the unlimited signal
+pub adapting : List Case
+adapting =
+    ((upzero (pos 5) (pos 100) (pos 0) ∷ upzero (pos 5) (pos 100) (neg 1) ∷ upzero (pos 0) (pos 100) (neg 1) ∷ [])
+    gives (pos 227 ∷ neg 29 ∷ pos 99 ∷ []))
+    ∷ ((four (pos 9000) ∷ four (neg 9000) ∷ []) gives (pos 32767 ∷ neg 32768 ∷ []))
+    ∷ ((turned (still (neg 9000) (pos 0)) (pos 0) ∷ turned (still (neg 9000) (pos 0)) (neg 1) ∷ []) gives (pos 255 ∷ neg 256 ∷ []))
+    ∷ ((uppol2 (still (neg 9000) (pos 12288)) (pos 0) ∷ uppol2 (poles (pos 9000) (neg 12288) (pos 0) (pos 0) (pos 0) (neg 1)) (pos 0) ∷ [])
+    gives (pos 12288 ∷ neg 12288 ∷ []))
+    ∷ ((uppol2 (still (pos 0) (pos 1000)) (pos 0) ∷ uppol2 (still (pos 0) (pos 1000)) (neg 1) ∷ []) gives (pos 1120 ∷ pos 864 ∷ []))
+    ∷ ((uppol1 (still (pos 3072) (pos 0)) (pos 12288) (pos 0) ∷ uppol1 (still (neg 3072) (pos 0)) (pos 12288) (neg 1) ∷ [])
+    gives (pos 3072 ∷ neg 3072 ∷ []))
+    ∷ ((nextPoles (still (pos 3160) (pos 12200)) (neg 1) (pos 0) .a1 ∷ nextPoles (still (pos 3160) (pos 12200)) (pos 7) (pos 0) .a1 ∷ [])
+    gives (pos 2955 ∷ pos 3227 ∷ []))
+    ∷ ((nextBand swung (pos 1000) (swung .factors) .poles .r1 ∷ []) gives (pos 32767 ∷ []))
+    ∷ (flat (nextBand busy (pos 7) (low .factors)) gives
+    ((pos 128 ∷ pos 128 ∷ pos 128 ∷ pos 128 ∷ pos 128 ∷ pos 16448 ∷ []) ++ (pos 0 ∷ pos 0 ∷ pos 0 ∷ pos 0 ∷ pos 100 ∷ pos 7 ∷ [])
+    ++ (pos 8352 ∷ neg 8256 ∷ pos 167 ∷ pos 200 ∷ pos 107 ∷ pos 0 ∷ pos 0 ∷ pos 32 ∷ [])))
+    ∷ []
+
+pub adapting-hold : Hold adapting
+unfolding adapting meaning
+adapting-hold = all-hold adapting refl
+
+-- both filters limit at both ends, and the newest and the oldest meet H0 and H23
+pub filters : List Case
+filters =
+    ((lowt (loudest h) ∷ lowt (loudest (turnedRound h)) ∷ []) gives (pos 16383 ∷ neg 16384 ∷ []))
+    ∷ ((hight (loudest (alternating h)) ∷ hight (loudest (turnedRound (alternating h))) ∷ []) gives (pos 16383 ∷ neg 16384 ∷ []))
+    ∷ ((lowt firstOf24 ∷ hight firstOf24 ∷ lowt lastOf24 ∷ hight lastOf24 ∷ []) gives (pos 5 ∷ neg 6 ∷ pos 5 ∷ pos 5 ∷ []))
+    ∷ ((accumc (loudest (odds h)) (loudest (turnedRound (odds h))) ∷ accumc (loudest (turnedRound (odds h))) (loudest (odds h)) ∷ [])
+    gives (pos 16383 ∷ neg 16384 ∷ []))
+    ∷ ((accumd (loudest (evens h)) (loudest (evens h)) ∷ accumd (loudest (turnedRound (evens h))) (loudest (turnedRound (evens h))) ∷ [])
+    gives (pos 16383 ∷ neg 16384 ∷ []))
+    ∷ ((accumc lastOf12 (replicate 12 (pos 0)) ∷ accumd lastOf12 (replicate 12 (pos 0)) ∷ []) gives (pos 11 ∷ neg 44 ∷ []))
+    ∷ ((accumc (replicate 12 (pos 0)) lastOf12 ∷ accumd (replicate 12 (pos 0)) lastOf12 ∷ []) gives (neg 12 ∷ neg 44 ∷ []))
+    ∷ []
+
+pub filters-hold : Hold filters
+unfolding filters meaning
+filters-hold = all-hold filters refl
+
+-- the heard signals are limited; what a step keeps; the mode leaves the loop alone
+pub stepping : List Case
+stepping =
+    ((recons swung (pos 1000) ∷ rlOf 1 swung 0xE0 ∷ rhOf swung 0xE0 ∷ []) gives (pos 32767 ∷ pos 16383 ∷ pos 16383 ∷ []))
+    ∷ (coderStep resetCoder (pos 5) (pos 6) .past gives replicate 20 (pos 0) ++ (pos 5 ∷ pos 6 ∷ []))
+    ∷ (decoderStep 1 resetDecoder 0x04 .past .rl gives replicate 10 (pos 0) ++ (neg 25 ∷ []))
+    ∷ (decoderStep 1 resetDecoder 0x04 .past .rh gives replicate 10 (pos 0) ++ (neg 2 ∷ []))
+    ∷ ((decoderStep 1 resetDecoder 0x04 .low .poles .r1 ∷ decoderStep 3 resetDecoder 0x04 .low .poles .r1 ∷ []) gives (neg 20 ∷ neg 20 ∷ []))
+    ∷ []
+
+pub stepping-hold : Hold stepping
+unfolding stepping meaning
+stepping-hold = all-hold stepping refl
+
+-- reset is all zero but for the scale factors 32 and 8
+pub resetting : List Case
+resetting =
+    (flat (resetCoder .low) ++ flat (resetCoder .high) ++ resetCoder .past
+    gives replicate 19 (pos 0) ++ (pos 32 ∷ replicate 19 (pos 0)) ++ (pos 8 ∷ replicate 22 (pos 0)))
+    ∷ (flat (resetDecoder .low) ++ flat (resetDecoder .high) ++ resetDecoder .past .rl ++ resetDecoder .past .rh
+    gives replicate 19 (pos 0) ++ (pos 32 ∷ replicate 19 (pos 0)) ++ (pos 8 ∷ replicate 22 (pos 0)))
+    ∷ []
+
+pub resetting-hold : Hold resetting
+unfolding resetting meaning
+resetting-hold = all-hold resetting refl
+
+-- the bounds of a record: the second pole coefficient, the first, the factors, the past; in both bands, at both ends
+pub bounds : List Case
+bounds =
+    (coderNumbers (map (λ (s : Band). coder s high (pos 0))
+    (lowWith (pos 3072) (pos 12288) ∷ lowWith (pos 0) (pos 12289) ∷ lowWith (pos 27648) (neg 12288) ∷ lowWith (pos 0) (neg 12289) ∷ []))
+    gives these (0 ∷ 2 ∷ 0 ∷ 2 ∷ []))
+    ∷ (coderNumbers (map (λ (s : Band). coder s high (pos 0))
+    (lowWith (pos 3073) (pos 12288) ∷ lowWith (neg 3072) (pos 12288) ∷ lowWith (neg 3073) (pos 12288) ∷ []))
+    gives these (2 ∷ 0 ∷ 2 ∷ []))
+    ∷ (coderNumbers (map (λ (s : Band). coder s high (pos 0))
+    (scaled (pos 18432) (pos 16384) ∷ scaled (pos 18433) (pos 16384) ∷ scaled (neg 1) (pos 32) ∷ scaled (pos 0) (pos 36) ∷ []))
+    gives these (0 ∷ 2 ∷ 2 ∷ 2 ∷ []))
+    ∷ (coderNumbers (map (λ (s : Band). coder low s (pos 0))
+    (scaled (pos 22528) (pos 16384) ∷ scaled (pos 22529) (pos 16384) ∷ highWith (pos 0) (pos 12289) ∷ highWith (pos 15361) (pos 0) ∷ []))
+    gives these (0 ∷ 2 ∷ 2 ∷ 2 ∷ []))
+    ∷ (coderNumbers (coder low high (neg 16384) ∷ coder low high (neg 16385) ∷ coder low high (pos 16384) ∷ []) gives these (0 ∷ 2 ∷ 2 ∷ []))
+    ∷ (decoderNumbers (decoder high high (pos 0) (pos 0) ∷ decoder low low (pos 0) (pos 0) ∷ []) gives these (2 ∷ 2 ∷ []))
+    ∷ (decoderNumbers (decoder (lowWith (pos 0) (pos 12289)) high (pos 0) (pos 0) ∷ decoder low (highWith (pos 0) (pos 12289)) (pos 0) (pos 0) ∷ [])
+    gives these (2 ∷ 2 ∷ []))
+    ∷ (decoderNumbers (decoder low high (pos 16383) (neg 16384) ∷ decoder low high (pos 16384) (pos 0) ∷ decoder low high (pos 0) (neg 16385) ∷ [])
+    gives these (0 ∷ 2 ∷ 2 ∷ []))
+    ∷ []
+
+pub bounds-hold : Hold bounds
+unfolding bounds meaning
+bounds-hold = all-hold bounds refl
+
+-- refusals in their order with what was lent kept, coding 3, 2, 4 with the index, decoding 1, 3, 2; the record comes back; an accepted call's index is 0
+pub refusals : List Case
+refusals =
+    (codes (coder (lowWith (pos 0) (pos 12289)) high (pos 0)) (pos 16384 ∷ []) (7 ∷ []) gives these (3 ∷ 0 ∷ 7 ∷ []))
+    ∷ (codes (coder (lowWith (pos 0) (pos 12289)) high (pos 0)) (pos 16384 ∷ pos 0 ∷ []) (7 ∷ []) gives these (2 ∷ 0 ∷ 7 ∷ []))
+    ∷ (codes resetCoder (pos 0 ∷ neg 16385 ∷ []) (7 ∷ []) gives these (4 ∷ 1 ∷ 7 ∷ []))
+    ∷ (codes resetCoder (pos 0 ∷ pos 0 ∷ []) (7 ∷ []) gives these (0 ∷ 0 ∷ 0xFA ∷ []))
+    ∷ (decodes (decoder (resetBand (pos 0)) high (pos 0) (pos 0)) 4 [] (pos 5 ∷ []) gives these (1 ∷ 0 ∷ 5 ∷ []))
+    ∷ (decodes (decoder (resetBand (pos 0)) high (pos 0) (pos 0)) 3 [] (pos 5 ∷ []) gives these (3 ∷ 0 ∷ 5 ∷ []))
+    ∷ (decodes (decoder (resetBand (pos 0)) high (pos 0) (pos 0)) 3 (0xFA ∷ []) (pos 5 ∷ pos 6 ∷ []) gives these (2 ∷ 0 ∷ 5 ∷ 6 ∷ []))
+    ∷ (decodes resetDecoder 1 (0xFA ∷ []) (pos 5 ∷ pos 6 ∷ []) gives (pos 0 ∷ pos 0 ∷ pos 0 ∷ neg 1 ∷ []))
+    ∷ (flat (codeCall (coder swung high (pos 0)) (pos 16384 ∷ pos 0 ∷ []) (7 ∷ []) .answer .next .low) gives flat swung)
+    ∷ (flat (decodeCall (decoder swung high (pos 0) (pos 0)) 4 [] [] .answer .next .low) gives flat swung)
+    ∷ (truths (misfit 16000 8000 ∷ misfit 16002 8001 ∷ misfit 15999 8000 ∷ misfit 16001 8000 ∷ []) gives these (0 ∷ 1 ∷ 1 ∷ 1 ∷ []))
+    ∷ []
+
+pub refusals-hold : Hold refusals
+unfolding refusals meaning
+refusals-hold = all-hold refusals refl
+
+-- data calls 1, 5, 3; data must fill the octets; and taking out what sums 9 and 10 put in
+pub cueing : List Case
+cueing =
+    (moves (putCall 4 (7 ∷ []) []) gives these (1 ∷ 0 ∷ 7 ∷ []))
+    ∷ (moves (putCall 1 (7 ∷ []) []) gives these (5 ∷ 0 ∷ 7 ∷ []))
+    ∷ (moves (takeCall 0 (7 ∷ []) (9 ∷ [])) gives these (5 ∷ 0 ∷ 9 ∷ []))
+    ∷ (moves (takeCall 2 (replicate 7 0xFA) (9 ∷ [])) gives these (3 ∷ 0 ∷ 9 ∷ []))
+    ∷ (moves (putCall 2 (replicate 16 0xFA) (0x81 ∷ [])) gives these (3 ∷ 0 ∷ replicate 16 0xFA))
+    ∷ (moves (putCall 3 [] []) gives these (0 ∷ 0 ∷ []))
+    ∷ (moves (takeCall 3 (0xFA ∷ 0xFB ∷ 0xF8 ∷ 0xF9 ∷ []) (9 ∷ [])) gives these (0 ∷ 0 ∷ 0xB1 ∷ []))
+    ∷ (moves (takeCall 2 (0xFB ∷ replicate 6 0xFA ++ (0xFB ∷ [])) (9 ∷ [])) gives these (0 ∷ 0 ∷ 0x81 ∷ []))
+    ∷ (truths (unfilled 2 8000 1000 ∷ unfilled 2 8008 1001 ∷ unfilled 3 8000 2000 ∷ unfilled 3 8004 2001 ∷ []) gives these (0 ∷ 1 ∷ 0 ∷ 1 ∷ []))
+    ∷ []
+
+pub cueing-hold : Hold cueing
+unfolding cueing meaning
+cueing-hold = all-hold cueing refl
