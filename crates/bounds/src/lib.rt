@@ -1,6 +1,7 @@
 // The bounds of records and of samples: document 01, "State and its bounds".
 ghost use mathlib.Core.Path.{_≡_};
 ghost use mathlib.Core.Bool.{_&&_};
+ghost use Rattle.g722.specs.Coding.{misfit};
 ghost use Rattle.g722.specs.Records.{inRange, allInRange, goodPoles, goodLow, goodHigh, resetBand};
 use arith::equal;
 use arith::sub;
@@ -11,6 +12,16 @@ use g722::Poles;
 use g722::Zeros;
 use quant::scaleh;
 use quant::scalel;
+
+// Whether lent lengths do not fit: 2n samples to n octets, n at most 8000.
+pub fn misfit(samples: usize, octets: usize) -> bool
+    ensures { λ r. ⌜ r ≡ misfit samples octets ⌝ }
+{
+    if 8000 < octets {
+        return true;
+    }
+    samples != 2 * octets
+}
 
 // Whether both hold.
 pub fn both(a: bool, b: bool) -> bool

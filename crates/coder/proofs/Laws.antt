@@ -6,7 +6,7 @@ use mathlib.Core.List.{List, [], _∷_, _++_, append-nil}
 use Prim.Native.Nat.{ℕ, zero, suc, _+_, _*_, _≤_, _<_}
 use native.Mathlib.Numerals.{add-one}
 use native.Mathlib.Omega.{arith}
-use borrow.Author.Tests.{lt-ltb, le-ltb, eq-eqb, ne-eqb}
+use borrow.Author.Tests.{lt-ltb, le-ltb}
 use lib.IntN.{ℤ, pos}
 use lib.ListN.{length, take, drop, getD, drop-of-length-le}
 use lib.Seq.{drop-cons, take-all}
@@ -128,25 +128,20 @@ some-bad (x ∷ rest) e =
 -- ---- the call, case by case
 
 module _ (c : Coder) (s : List ℤ) (o : List ℕ) where
-  pub call-long : 8000 < length o → codeCall c s o ≡ notCoded 3 0 c o
-  unfolding codeCall misfit
-  call-long h = simp (lt-ltb _ _ h)
+  pub call-misfit : misfit (length s) (length o) ≡ true → codeCall c s o ≡ notCoded 3 0 c o
+  unfolding codeCall
+  call-misfit e = rw e
 
-  module _ (h : length o ≤ 8000) where
-    pub call-uneven : (length s ≡ 2 * length o → ⊥) → codeCall c s o ≡ notCoded 3 0 c o
-    unfolding codeCall misfit
-    call-uneven k = simp (le-ltb _ _ h, ne-eqb _ _ k)
+  module _ (e : misfit (length s) (length o) ≡ false) where
+    pub call-broken : goodCoder c ≡ false → codeCall c s o ≡ notCoded 2 0 c o
+    unfolding codeCall
+    call-broken g = rw (e, g)
 
-    module _ (k : length s ≡ 2 * length o) where
-      pub call-broken : goodCoder c ≡ false → codeCall c s o ≡ notCoded 2 0 c o
-      unfolding codeCall misfit
-      call-broken g = simp (le-ltb _ _ h, eq-eqb _ _ k, g)
+    module _ (g : goodCoder c ≡ true) where
+      pub call-bad : firstBad s < length s → codeCall c s o ≡ notCoded 4 (firstBad s) c o
+      unfolding codeCall
+      call-bad b = rw (e, g, lt-ltb _ _ b)
 
-      module _ (g : goodCoder c ≡ true) where
-        pub call-bad : firstBad s < length s → codeCall c s o ≡ notCoded 4 (firstBad s) c o
-        unfolding codeCall misfit
-        call-bad b = simp (le-ltb _ _ h, eq-eqb _ _ k, g, lt-ltb _ _ b)
-
-        pub call-done : length s ≤ firstBad s → codeCall c s o ≡ coded c s
-        unfolding codeCall misfit
-        call-done b = simp (le-ltb _ _ h, eq-eqb _ _ k, g, le-ltb _ _ b)
+      pub call-done : length s ≤ firstBad s → codeCall c s o ≡ coded c s
+      unfolding codeCall
+      call-done b = rw (e, g, le-ltb _ _ b)

@@ -13,6 +13,7 @@ use bounds::both;
 use bounds::good_high;
 use bounds::good_low;
 use bounds::in_range;
+use bounds::misfit;
 use bounds::reset_band;
 use g722::Band;
 use g722::Coded;
@@ -99,11 +100,7 @@ fn answer(number: u8, index: usize, c: Coder) -> Coded
 pub fn code(c: Coder, samples: &[i16], octets: &mut [u8]) -> Coded
     ensures { λ r. ⌜ Does (codeCall c (now (samples .entry)) (now (octets .entry))) r (now (octets .exit)) ⌝ }
 {
-    let n = octets.len();
-    if 8000 < n {
-        return answer(3, 0, c);
-    }
-    if samples.len() != 2 * n {
+    if misfit(samples.len(), octets.len()) {
         return answer(3, 0, c);
     }
     if !good_coder(c) {

@@ -87,20 +87,15 @@ module _ (d : Decoder) (told : ℕ) (o : List ℕ) (s : List ℤ) where
   call-mode h = simp (lt-ltb _ _ h)
 
   module _ (m : told ≤ 3) where
-    pub call-long : 8000 < length o → decodeCall d told o s ≡ notDecoded 3 d s
-    unfolding decodeCall misfit
-    call-long h = simp (le-ltb 3 told m, lt-ltb 8000 (length o) h)
+    pub call-misfit : misfit (length s) (length o) ≡ true → decodeCall d told o s ≡ notDecoded 3 d s
+    unfolding decodeCall
+    call-misfit e = rw (le-ltb 3 told m, e)
 
-    module _ (h : length o ≤ 8000) where
-      pub call-uneven : (length s ≡ 2 * length o → ⊥) → decodeCall d told o s ≡ notDecoded 3 d s
-      unfolding decodeCall misfit
-      call-uneven k = simp (le-ltb 3 told m, le-ltb 8000 (length o) h, ne-eqb (length s) (2 * length o) k)
+    module _ (e : misfit (length s) (length o) ≡ false) where
+      pub call-broken : goodDecoder d ≡ false → decodeCall d told o s ≡ notDecoded 2 d s
+      unfolding decodeCall
+      call-broken g = rw (le-ltb 3 told m, e, g)
 
-      module _ (k : length s ≡ 2 * length o) where
-        pub call-broken : goodDecoder d ≡ false → decodeCall d told o s ≡ notDecoded 2 d s
-        unfolding decodeCall misfit
-        call-broken g = simp (le-ltb 3 told m, le-ltb 8000 (length o) h, eq-eqb (length s) (2 * length o) k, g)
-
-        pub call-done : goodDecoder d ≡ true → decodeCall d told o s ≡ decoded (inForce told) d o
-        unfolding decodeCall misfit
-        call-done g = simp (le-ltb 3 told m, le-ltb 8000 (length o) h, eq-eqb (length s) (2 * length o) k, g)
+      pub call-done : goodDecoder d ≡ true → decodeCall d told o s ≡ decoded (inForce told) d o
+      unfolding decodeCall
+      call-done g = rw (le-ltb 3 told m, e, g)

@@ -12,6 +12,7 @@ use bounds::all_in_range;
 use bounds::both;
 use bounds::good_high;
 use bounds::good_low;
+use bounds::misfit;
 use bounds::reset_band;
 use g722::Band;
 use g722::Decoded;
@@ -99,11 +100,7 @@ pub fn decode(d: Decoder, told: u8, octets: &[u8], samples: &mut [i16]) -> Decod
     if 3 < told {
         return answer(1, d);
     }
-    let n = octets.len();
-    if 8000 < n {
-        return answer(3, d);
-    }
-    if samples.len() != 2 * n {
+    if misfit(samples.len(), octets.len()) {
         return answer(3, d);
     }
     if !good_decoder(d) {

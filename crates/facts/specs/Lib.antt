@@ -1,4 +1,5 @@
 -- What follows from the definitions of `g722`, and several crates cite.
+pub mod Lengths
 pub mod Reach
 pub mod Sent
 pub mod Upper

@@ -15,6 +15,11 @@ times-read (negsuc m) (negsuc n) = omega arith
 pub times-sum : (a b c : ℤ) → (a +ℤ b) *ℤ c ≡ a *ℤ c +ℤ b *ℤ c
 times-sum a b c =
     same _ _ (omega (
-      arith, times-read a c, times-read b c, times-read (a +ℤ b) c, add-read (a *ℤ c) (b *ℤ c),
-      ap (λ (x : ℕ). x * up c) (add-read a b), ap (λ (x : ℕ). x * dn c) (add-read a b)
+      arith,
+      times-read a c,
+      times-read b c,
+      times-read (a +ℤ b) c,
+      add-read (a *ℤ c) (b *ℤ c),
+      ap (λ (x : ℕ). x * up c) (add-read a b),
+      ap (λ (x : ℕ). x * dn c) (add-read a b),
     ))

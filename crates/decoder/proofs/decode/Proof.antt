@@ -1,13 +1,17 @@
 -- `decoder::decode` meets its contract: each way out is a case of the definition.
-use mathlib.Core.Path.{refl, sym, ap, _∙_}
+use mathlib.Core.Path.{_≡_, refl, sym, ap, _∙_}
+use mathlib.Core.Bool.{false}
 use native.Mathlib.Omega.{arith}
 use borrow.Author.Needs.{needs}
 use borrow.Author.Tests.{not-true, not-false}
 use Prim.Native.Nat.{ℕ}
+use lib.ListN.{length}
 use Rattle.laws.specs.Outcome.{does}
+use Rattle.facts.specs.Lengths.{twice}
+use Rattle.g722.specs.Coding.{misfit}
 use Rattle.g722.specs.Decoding.{samplesOf, decoderAfter, notDecoded, decoded}
 use Rattle.g722.specs.declared.Decoder.{Decoder}
-use Rattle.decoder.proofs.Laws.{call-mode, call-long, call-uneven, call-broken, call-done}
+use Rattle.decoder.proofs.Laws.{call-mode, call-misfit, call-broken, call-done}
 use Rattle.decoder.proofs.decode.Statement.{statement}
 use Rattle.decoder.proofs.decode.Tie as tie
 
@@ -17,29 +21,36 @@ returns c = does (call-mode _ _ _ _ (omega arith)) (c .answer .ensures) refl
 
 returns-2 : tie.Need-returns-2
 unfolding notDecoded
-returns-2 c = does (call-long _ _ _ _ (omega arith) (omega arith)) (c .answer2 .ensures) refl
+returns-2 c =
+    let t = c .before in
+    does (call-misfit _ _ _ _ (omega arith) (sym (t .before .misfit .ensures) ∙ t .if2 .taken)) (c .answer2 .ensures) refl
+
+-- past the second test
+fits : (e : tie.Else2) → let args = e .before .before .before .before .args in misfit (length (args .samples .now)) (length (args .octets .now)) ≡ false
+fits e = sym (e .before .misfit .ensures) ∙ e .if2 .left
 
 returns-3 : tie.Need-returns-3
 unfolding notDecoded
-returns-3 c = does (call-uneven _ _ _ _ (omega arith) (omega arith) (c .before .if3 .taken)) (c .answer3 .ensures) refl
+returns-3 c =
+    let t = c .before in
+    does (call-broken _ _ _ _ (omega arith) (fits (t .before .before)) (sym (t .before .good-decoder .ensures) ∙ not-true _ (t .if3 .taken)))
+    (c .answer3 .ensures) refl
 
 returns-4 : tie.Need-returns-4
-unfolding notDecoded
-returns-4 c =
-    let t = c .before in
-    does (call-broken _ _ _ _ (omega arith) (omega arith) (t .before .before .if3 .left) (sym (t .before .good-decoder .ensures) ∙ not-true _ (t .if4 .taken)))
-    (c .answer4 .ensures) refl
-
-returns-5 : tie.Need-returns-5
 unfolding decoded
-returns-5 c =
+returns-4 c =
     let r = c .before .before in
     let f = r .before .before in
     let e = f .before in
     let args = e .before .before .before .before .before .before .args in
-    does (call-done _ _ _ _ (omega arith) (omega arith) (e .before .before .if3 .left) (sym (e .before .good-decoder .ensures) ∙ not-false _ (e .if4 .left)))
-    (c .answer5 .ensures ∙ ap (λ (s : Decoder). record { number = 0; index = 0; next = s }) (r .run .ensures .answer ∙ ap (λ (m : ℕ). decoderAfter m (args .d) (args .octets .now)) (f .in-force .ensures)))
-    (r .run .ensures .left ∙ ap (λ (m : ℕ). samplesOf m (args .d) (args .octets .now)) (f .in-force .ensures))
+    let told = f .in-force .ensures in
+    does (call-done _ _ _ _ (omega arith) (fits (e .before .before)) (sym (e .before .good-decoder .ensures) ∙ not-false _ (e .if3 .left)))
+    (c .answer4 .ensures ∙ ap (λ (s : Decoder). record { number = 0; index = 0; next = s })
+    (r .run .ensures .answer ∙ ap (λ (m : ℕ). decoderAfter m (args .d) (args .octets .now)) told))
+    (r .run .ensures .left ∙ ap (λ (m : ℕ). samplesOf m (args .d) (args .octets .now)) told)
+
+run-requires : tie.Need-run-requires
+run-requires c κs = twice _ _ (fits (c .before .before .before .before))
 
 pub decode-spec : {M : Type 1} → statement M
 decode-spec =
@@ -48,15 +59,13 @@ decode-spec =
     (λ c κs. tt)
     returns
     (λ c κs. tt)
+    (λ c κs. tt)
     returns-2
-    (λ c. search needs)
+    (λ c κs. tt)
     (λ c κs. tt)
     returns-3
     (λ c κs. tt)
-    (λ c κs. tt)
-    returns-4
-    (λ c κs. tt)
-    (λ c κs. search needs)
+    run-requires
     (λ c κs. tt)
     (λ c. search needs)
-    returns-5)
+    returns-4)
