@@ -31,6 +31,10 @@ poles a1 a2 r1 r2 p1 p2 = record { a1 = a1; a2 = a2; r1 = r1; r2 = r2; p1 = p1; 
 abbrev still : ℤ → ℤ → Poles
 still a1 a2 = poles a1 a2 (pos 0) (pos 0) (pos 0) (pos 0)
 
+-- whose two past partial signals differ in sign
+abbrev parted : ℤ → ℤ → Poles
+parted a1 a2 = poles a1 a2 (pos 0) (pos 0) (neg 1) (pos 0)
+
 abbrev band : Poles → ℤ → ℤ → Band
 band s log scale = record { zeros = resetBand (pos 0) .zeros; poles = s; factors = record { log = log; scale = scale } }
 
@@ -59,7 +63,10 @@ swung = band (poles (pos 27648) (neg 12288) (pos 32767) (neg 32768) (pos 0) (pos
 abbrev busy : Band
 busy =
     record {
-      zeros = record { b = replicate 5 (pos 0) ++ (pos 16384 ∷ []); d = replicate 5 (pos 0) ++ (pos 100 ∷ []) };
+      zeros = record {
+        b = neg 8192 ∷ replicate 4 (pos 0) ++ (pos 16384 ∷ []);
+        d = pos 50 ∷ replicate 4 (pos 0) ++ (pos 100 ∷ []);
+      };
       poles = poles (pos 8192) (neg 8192) (pos 200) (pos 80) (pos 0) (pos 0);
       factors = record { log = pos 0; scale = pos 32 };
     }
@@ -158,7 +165,7 @@ pub predicting : List Case
 predicting =
     ((sums (pos 0) (pos 30000 ∷ pos 30000 ∷ neg 30000 ∷ []) ∷ []) gives (pos 2767 ∷ []))
     ∷ ((filtep (swung .poles) ∷ []) gives (pos 32767 ∷ []))
-    ∷ ((predic busy ∷ parrec busy (pos 7) ∷ recons busy (pos 7) ∷ []) gives (pos 160 ∷ pos 107 ∷ pos 167 ∷ []))
+    ∷ ((predic busy ∷ parrec busy (pos 7) ∷ recons busy (pos 7) ∷ []) gives (pos 135 ∷ pos 82 ∷ pos 142 ∷ []))
     ∷ (slide (pos 1 ∷ pos 2 ∷ pos 3 ∷ []) (pos 4) gives these (2 ∷ 3 ∷ 4 ∷ []))
     ∷ []
 
@@ -171,19 +178,24 @@ pub adapting : List Case
 adapting =
     ((upzero (pos 5) (pos 100) (pos 0) ∷ upzero (pos 5) (pos 100) (neg 1) ∷ upzero (pos 0) (pos 100) (neg 1) ∷ [])
     gives (pos 227 ∷ neg 29 ∷ pos 99 ∷ []))
+    ∷ ((upzero (pos 0) (pos 32767) (pos 0) ∷ []) gives (pos 32639 ∷ []))
     ∷ ((four (pos 9000) ∷ four (neg 9000) ∷ []) gives (pos 32767 ∷ neg 32768 ∷ []))
     ∷ ((turned (still (neg 9000) (pos 0)) (pos 0) ∷ turned (still (neg 9000) (pos 0)) (neg 1) ∷ []) gives (pos 255 ∷ neg 256 ∷ []))
     ∷ ((uppol2 (still (neg 9000) (pos 12288)) (pos 0) ∷ uppol2 (poles (pos 9000) (neg 12288) (pos 0) (pos 0) (pos 0) (neg 1)) (pos 0) ∷ [])
     gives (pos 12288 ∷ neg 12288 ∷ []))
     ∷ ((uppol2 (still (pos 0) (pos 1000)) (pos 0) ∷ uppol2 (still (pos 0) (pos 1000)) (neg 1) ∷ []) gives (pos 1120 ∷ pos 864 ∷ []))
+    ∷ ((uppol2 (still (pos 0) (pos 12161)) (pos 0) ∷ uppol2 (still (pos 0) (pos 12288)) (neg 1) ∷ []) gives (pos 12193 ∷ pos 12064 ∷ []))
+    ∷ ((uppol2 (parted (pos 0) (pos 1000)) (pos 0) ∷ uppol1 (parted (pos 1000) (pos 0)) (pos 0) (pos 0) ∷ []) gives (pos 1120 ∷ pos 804 ∷ []))
+    ∷ ((uppol1 (still (pos 27137) (pos 0)) (neg 12288) (pos 0) ∷ uppol1 (still (pos 27136) (pos 0)) (neg 12288) (pos 0) ∷ [])
+    gives (pos 27222 ∷ pos 27222 ∷ []))
     ∷ ((uppol1 (still (pos 3072) (pos 0)) (pos 12288) (pos 0) ∷ uppol1 (still (neg 3072) (pos 0)) (pos 12288) (neg 1) ∷ [])
     gives (pos 3072 ∷ neg 3072 ∷ []))
     ∷ ((nextPoles (still (pos 3160) (pos 12200)) (neg 1) (pos 0) .a1 ∷ nextPoles (still (pos 3160) (pos 12200)) (pos 7) (pos 0) .a1 ∷ [])
     gives (pos 2955 ∷ pos 3227 ∷ []))
     ∷ ((nextBand swung (pos 1000) (swung .factors) .poles .r1 ∷ []) gives (pos 32767 ∷ []))
     ∷ (flat (nextBand busy (pos 7) (low .factors)) gives
-    ((pos 128 ∷ pos 128 ∷ pos 128 ∷ pos 128 ∷ pos 128 ∷ pos 16448 ∷ []) ++ (pos 0 ∷ pos 0 ∷ pos 0 ∷ pos 0 ∷ pos 100 ∷ pos 7 ∷ [])
-    ++ (pos 8352 ∷ neg 8256 ∷ pos 167 ∷ pos 200 ∷ pos 107 ∷ pos 0 ∷ pos 0 ∷ pos 32 ∷ [])))
+    ((neg 8032 ∷ pos 128 ∷ pos 128 ∷ pos 128 ∷ pos 128 ∷ pos 16448 ∷ []) ++ (pos 0 ∷ pos 0 ∷ pos 0 ∷ pos 0 ∷ pos 100 ∷ pos 7 ∷ [])
+    ++ (pos 8352 ∷ neg 8256 ∷ pos 142 ∷ pos 200 ∷ pos 82 ∷ pos 0 ∷ pos 0 ∷ pos 32 ∷ [])))
     ∷ []
 
 pub adapting-hold : Hold adapting

@@ -1,2 +1,3 @@
+-- Laws that the proofs of samples as bytes share.
 pub mod Turns
 pub mod Calls

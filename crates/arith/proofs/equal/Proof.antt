@@ -1,3 +1,4 @@
+-- `arith::equal` meets its contract, by those of its calls.
 use mir.Facts.{toZ-ofZ}
 use Rattle.g722.specs.Arithmetic.{equal}
 use Rattle.arith.proofs.equal.Statement.{statement}

@@ -1,3 +1,4 @@
+-- `arith::limit` meets its contract, by those of its calls.
 use mir.Facts.{toZ-ofZ}
 use Rattle.g722.specs.Arithmetic.{limit}
 use Rattle.laws.specs.Back.{got16}

@@ -1,3 +1,4 @@
+-- `arith::pick` meets its contract: each way out is a case of the definition.
 use mir.Facts.{toZ-ofZ}
 use Rattle.arith.proofs.pick.Statement.{statement}
 use Rattle.arith.proofs.pick.Tie as tie

@@ -1,3 +1,4 @@
+-- `arith::same_sign` meets its contract: each way out is a case of the definition.
 use mir.Facts.{toZ-ofZ}
 use Rattle.g722.specs.Arithmetic.{sameSign}
 use Rattle.arith.proofs.same_sign.Statement.{statement}

@@ -1,3 +1,4 @@
+-- `arith::wide` meets its contract.
 use mir.Facts.{toZ-ofZ}
 use Rattle.laws.specs.Back.{wider}
 use Rattle.arith.proofs.wide.Statement.{statement}

@@ -1,3 +1,4 @@
+-- `arith::within` meets its contract: each way out is a case of the definition.
 use mir.Facts.{toZ-ofZ}
 use Rattle.g722.specs.Arithmetic.{within}
 use Rattle.arith.proofs.within.Statement.{statement}

@@ -1,3 +1,4 @@
+-- `band::estimate` meets its contract, by those of its calls.
 use mathlib.Core.Path.{_∙_}
 use Rattle.g722.specs.Band.{predic}
 use Rattle.laws.specs.Back.{got16}

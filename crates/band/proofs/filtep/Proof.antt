@@ -1,3 +1,4 @@
+-- `band::filtep` meets its contract, by those of its calls.
 use mathlib.Core.Path.{_∙_}
 use Rattle.g722.specs.Band.{filtep}
 use Rattle.laws.specs.Back.{back16, got16}

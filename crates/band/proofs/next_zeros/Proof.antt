@@ -1,3 +1,4 @@
+-- `band::next_zeros` meets its contract, by those of its calls.
 use mir.Facts.{toZ-ofZ}
 use Rattle.g722.specs.Band.{nextZeros}
 use Rattle.band.proofs.next_zeros.Statement.{statement}

@@ -1,3 +1,4 @@
+-- `band::turned` meets its contract, by those of its calls.
 use mathlib.Core.Path.{_∙_}
 use mir.Syntax.{w16}
 use mir.Facts.{toZ-ofZ}

@@ -1,3 +1,4 @@
+-- `bounds::both` meets its contract: each way out is a case of the definition.
 use Rattle.bounds.proofs.both.Statement.{statement}
 use Rattle.bounds.proofs.both.Tie as tie
 

@@ -1,3 +1,4 @@
+-- `bounds::good_high` meets its contract, by those of its calls.
 use Rattle.laws.specs.Back.{back16, got16}
 use Rattle.g722.specs.Records.{goodHigh, goodFactors}
 use Rattle.bounds.proofs.good_high.Statement.{statement}

@@ -1,3 +1,4 @@
+-- `bounds::good_low` meets its contract, by those of its calls.
 use Rattle.laws.specs.Back.{back16, got16}
 use Rattle.g722.specs.Records.{goodLow, goodFactors}
 use Rattle.bounds.proofs.good_low.Statement.{statement}

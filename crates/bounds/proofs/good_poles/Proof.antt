@@ -1,3 +1,4 @@
+-- `bounds::good_poles` meets its contract, by those of its calls.
 use mathlib.Core.Path.{_≡_, sym, subst}
 use mathlib.Core.Bool.{true, _&&_}
 use lib.Dec.{T}

@@ -1,3 +1,4 @@
+-- `bounds::in_range` meets its contract, by those of its calls.
 use mir.Facts.{toZ-ofZ}
 use Rattle.g722.specs.Records.{inRange}
 use Rattle.bounds.proofs.in_range.Statement.{statement}

@@ -1,3 +1,4 @@
+-- `bounds::reset_band` meets its contract.
 use mir.Facts.{toZ-ofZ}
 use Rattle.g722.specs.Records.{resetBand}
 use Rattle.bounds.proofs.reset_band.Statement.{statement}

@@ -1,3 +1,4 @@
+-- `coder::good_coder` meets its contract, by those of its calls.
 use borrow.Author.Needs.{needs}
 use Rattle.g722.specs.Records.{goodCoder}
 use Rattle.coder.proofs.good_coder.Statement.{statement}

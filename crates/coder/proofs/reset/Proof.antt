@@ -1,3 +1,4 @@
+-- `coder::reset` meets its contract, by those of its calls.
 use Rattle.g722.specs.Records.{resetCoder}
 use Rattle.coder.proofs.reset.Statement.{statement}
 use Rattle.coder.proofs.reset.Tie as tie

@@ -1,3 +1,4 @@
+-- `decoder::good_decoder` meets its contract, by those of its calls.
 use borrow.Author.Needs.{needs}
 use Rattle.g722.specs.Records.{goodDecoder}
 use Rattle.decoder.proofs.good_decoder.Statement.{statement}

@@ -1,3 +1,4 @@
+-- `decoder::reset` meets its contract, by those of its calls.
 use Rattle.g722.specs.Records.{resetDecoder}
 use Rattle.decoder.proofs.reset.Statement.{statement}
 use Rattle.decoder.proofs.reset.Tie as tie

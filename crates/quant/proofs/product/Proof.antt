@@ -1,3 +1,4 @@
+-- `quant::product` meets its contract, by those of its calls.
 use mathlib.Core.Path.{_≡_, sym}
 use mir.Syntax.{w32}
 use mir.Val.{toZ, ofZ}

@@ -1,3 +1,4 @@
+-- `coder::low_coded` meets its contract, by those of its calls.
 use mir.Facts.{toZ-ofZ}
 use Rattle.laws.specs.Back.{back16, got16}
 use mathlib.Core.Path.{_∙_}

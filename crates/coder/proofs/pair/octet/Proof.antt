@@ -1,3 +1,4 @@
+-- `coder::octet` meets its contract.
 use borrow.Author.Needs.{needs}
 use mathlib.Core.Path.{refl}
 use Rattle.g722.specs.Octet.{octet}

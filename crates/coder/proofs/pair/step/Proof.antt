@@ -1,3 +1,4 @@
+-- `coder::step` meets its contract, by those of its calls.
 use mathlib.Core.Path.{ap, _∙_}
 use mathlib.Core.List.{[], _∷_, _++_}
 use mir.Facts.{toZ-ofZ}

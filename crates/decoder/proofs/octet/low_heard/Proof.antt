@@ -1,3 +1,4 @@
+-- `decoder::low_heard` meets its contract, by those of its calls.
 use mathlib.Core.Path.{ap, _∙_}
 use Rattle.laws.specs.Back.{back16, got16, got32}
 use Rattle.g722.specs.Octet.{lowWord}

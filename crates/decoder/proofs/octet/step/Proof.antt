@@ -1,3 +1,4 @@
+-- `decoder::step` meets its contract, by those of its calls.
 use mathlib.Core.Path.{ap, _∙_}
 use mathlib.Core.List.{[], _∷_, _++_}
 use lib.IntN.{ℤ}

@@ -1,3 +1,4 @@
+-- `quant::logscl` meets its contract, by those of its calls.
 use mathlib.Core.Path.{_∙_}
 use mir.Facts.{toZ-ofZ}
 use Rattle.laws.specs.Back.{got16}

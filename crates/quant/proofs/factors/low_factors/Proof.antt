@@ -1,3 +1,4 @@
+-- `quant::low_factors` meets its contract, by those of its calls.
 use mathlib.Core.Path.{_∙_}
 use Rattle.laws.specs.Back.{got16, back16}
 use Rattle.g722.specs.Quantise.{lowFactors}

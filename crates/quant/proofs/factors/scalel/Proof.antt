@@ -1,3 +1,4 @@
+-- `quant::scalel` meets its contract, by those of its calls.
 use mathlib.Core.Path.{_∙_}
 use native.Mathlib.Omega.{arith}
 use mir.Facts.{toZ-ofZ}

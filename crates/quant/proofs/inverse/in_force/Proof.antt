@@ -1,3 +1,4 @@
+-- `quant::in_force` meets its contract: each way out is a case of the definition.
 use borrow.Author.Tests.{eq-eqb, ne-eqb}
 use Rattle.g722.specs.Quantise.{inForce}
 use Rattle.quant.proofs.inverse.in_force.Statement.{statement}

@@ -1,3 +1,4 @@
+-- `quant::inverse` meets its contract, by those of its calls.
 use mathlib.Core.Path.{_≡_, _∙_}
 use mathlib.Core.Bool.{true, cond}
 use Prim.Native.Nat.{_*_}

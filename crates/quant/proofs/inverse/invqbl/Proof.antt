@@ -1,3 +1,4 @@
+-- `quant::invqbl` meets its contract: each way out is a case of the definition.
 use borrow.Author.Tests.{eq-eqb, ne-eqb}
 use mathlib.Core.Path.{_∙_}
 use mir.Facts.{toZ-ofZ}

@@ -1,3 +1,4 @@
+-- `quant::high_interval` meets its contract: each way out is a case of the definition.
 use mathlib.Core.Path.{sym, ap, _∙_}
 use mathlib.Core.List.{[]}
 use Prim.Native.Nat.{_+_}

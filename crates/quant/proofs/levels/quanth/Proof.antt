@@ -1,3 +1,4 @@
+-- `quant::quanth` meets its contract, by those of its calls.
 use mir.Facts.{toZ-ofZ}
 use Rattle.g722.specs.Quantise.{quantise, quanth}
 use Rattle.quant.proofs.levels.quanth.Statement.{statement}

@@ -1,3 +1,4 @@
+-- `quant::quantl` meets its contract, by those of its calls.
 use mir.Facts.{toZ-ofZ}
 use Rattle.g722.specs.Quantise.{quantise, quantl}
 use Rattle.quant.proofs.levels.quantl.Statement.{statement}

@@ -1,3 +1,4 @@
+-- `tables::scale_at` meets its contract, by those of its calls.
 use native.Mathlib.Omega.{arith}
 use mir.Syntax.{w16}
 use mir.Facts.{toZ-pos}
