@@ -8,8 +8,9 @@ use lib.ListN.{drop, take, replicate}
 use lib.Signed.{mag}
 use Rattle.g722.specs.Arithmetic.{neg, mul, limit, negative, sameSign}
 use Rattle.g722.specs.Tables.{h, q6}
-use Rattle.g722.specs.Quantise.{level, quantise, quanth, invqal, invqah, invqbl, logscl, logsch}
+use Rattle.g722.specs.Quantise.{subtra, level, quantise, quanth, invqal, invqah, invqbl, logscl, logsch}
 use Rattle.g722.specs.Band.{slide, sums, filtep, predic, parrec, recons, upzero, four, turned, uppol2, uppol1, nextPoles, nextBand}
+use Rattle.g722.specs.Band.{lowAfter, highAfter}
 use Rattle.g722.specs.Mirror.{lowt, hight, accumc, accumd}
 use Rattle.g722.specs.Records.{resetBand, resetCoder, resetDecoder}
 use Rattle.g722.specs.Coding.{coderStep, misfit, codeCall}
@@ -67,7 +68,7 @@ busy =
         b = neg 8192 ∷ replicate 4 (pos 0) ++ (pos 16384 ∷ []);
         d = pos 50 ∷ replicate 4 (pos 0) ++ (pos 100 ∷ []);
       };
-      poles = poles (pos 8192) (neg 8192) (pos 200) (pos 80) (pos 0) (pos 0);
+      poles = poles (pos 8192) (neg 8192) (pos 200) (pos 80) (neg 3) (pos 4);
       factors = record { log = pos 0; scale = pos 32 };
     }
 
@@ -76,6 +77,10 @@ abbrev flat : Band → List ℤ
 flat s =
     let p = s .poles in
     s .zeros .b ++ s .zeros .d ++ (p .a1 ∷ p .a2 ∷ p .r1 ∷ p .r2 ∷ p .p1 ∷ p .p2 ∷ s .factors .log ∷ s .factors .scale ∷ [])
+
+-- its newest signal and its factors
+abbrev summary : Band → List ℤ
+summary s = s .poles .r1 ∷ s .factors .log ∷ s .factors .scale ∷ []
 
 abbrev coder : Band → Band → ℤ → Coder
 coder l r oldest = record { low = l; high = r; past = oldest ∷ replicate 21 (pos 0) }
@@ -151,6 +156,7 @@ quantising =
     gives (neg 227 ∷ neg 50 ∷ pos 226 ∷ pos 49 ∷ []))
     ∷ ((invqbl 1 0b000100 (pos 1000) ∷ invqbl 2 0b000100 (pos 1000) ∷ invqbl 3 0b000100 (pos 1000) ∷ [])
     gives (neg 758 ∷ neg 713 ∷ neg 625 ∷ []))
+    ∷ ((subtra (pos 5) (pos 3) ∷ []) gives (pos 2 ∷ []))
     ∷ (heard 0 (0xFF ∷ []) gives (neg 1 ∷ pos 0 ∷ []))
     ∷ ((logscl 0b111100 (pos 0) ∷ logsch 0b11 (pos 0) ∷ logsch 0b10 (pos 22528) ∷ []) gives (pos 0 ∷ pos 0 ∷ pos 22528 ∷ []))
     ∷ ((logscl 0b111100 (pos 18367) ∷ logsch 0b11 (pos 18367) ∷ []) gives (pos 18163 ∷ pos 18009 ∷ []))
@@ -195,7 +201,7 @@ adapting =
     ∷ ((nextBand swung (pos 1000) (swung .factors) .poles .r1 ∷ []) gives (pos 32767 ∷ []))
     ∷ (flat (nextBand busy (pos 7) (low .factors)) gives
     ((neg 8032 ∷ pos 128 ∷ pos 128 ∷ pos 128 ∷ pos 128 ∷ pos 16448 ∷ []) ++ (pos 0 ∷ pos 0 ∷ pos 0 ∷ pos 0 ∷ pos 100 ∷ pos 7 ∷ [])
-    ++ (pos 8352 ∷ neg 8256 ∷ pos 142 ∷ pos 200 ∷ pos 82 ∷ pos 0 ∷ pos 0 ∷ pos 32 ∷ [])))
+    ++ (pos 7968 ∷ neg 7745 ∷ pos 142 ∷ pos 200 ∷ pos 82 ∷ neg 3 ∷ pos 0 ∷ pos 32 ∷ [])))
     ∷ []
 
 pub adapting-hold : Hold adapting
@@ -224,6 +230,8 @@ filters-hold = all-hold filters refl
 pub stepping : List Case
 stepping =
     ((recons swung (pos 1000) ∷ rlOf 1 swung 0xE0 ∷ rhOf swung 0xE0 ∷ []) gives (pos 32767 ∷ pos 16383 ∷ pos 16383 ∷ []))
+    ∷ (summary (lowAfter (scaled (pos 5000) (pos 100)) 0b100000) ++ summary (highAfter (scaled (pos 5000) (pos 100)) 0b10)
+    gives (pos 62 ∷ pos 8002 ∷ pos 476 ∷ pos 22 ∷ pos 5758 ∷ pos 52 ∷ []))
     ∷ (coderStep resetCoder (pos 5) (pos 6) .past gives replicate 20 (pos 0) ++ (pos 5 ∷ pos 6 ∷ []))
     ∷ (decoderStep 1 resetDecoder 0x04 .past .rl gives replicate 10 (pos 0) ++ (neg 25 ∷ []))
     ∷ (decoderStep 1 resetDecoder 0x04 .past .rh gives replicate 10 (pos 0) ++ (neg 2 ∷ []))
