@@ -124,8 +124,18 @@ firstOf24 = pos 16383 ∷ replicate 23 (pos 0)
 abbrev lastOf24 : List ℤ
 lastOf24 = replicate 23 (pos 0) ++ (pos 16383 ∷ [])
 
+abbrev firstOf12 : List ℤ
+firstOf12 = pos 16383 ∷ replicate 11 (pos 0)
+
 abbrev lastOf12 : List ℤ
 lastOf12 = replicate 11 (pos 0) ++ (pos 16383 ∷ [])
+
+abbrev zeros : List ℤ
+zeros = replicate 12 (pos 0)
+
+-- both samples of twelve pairs
+abbrev outputs : List ℤ → List ℤ → List ℤ
+outputs rl rh = accumc rl rh ∷ accumd rl rh ∷ []
 
 -- ---- the cases
 
@@ -218,8 +228,8 @@ filters =
     gives (pos 16383 ∷ neg 16384 ∷ []))
     ∷ ((accumd (loudest (evens h)) (loudest (evens h)) ∷ accumd (loudest (turnedRound (evens h))) (loudest (turnedRound (evens h))) ∷ [])
     gives (pos 16383 ∷ neg 16384 ∷ []))
-    ∷ ((accumc lastOf12 (replicate 12 (pos 0)) ∷ accumd lastOf12 (replicate 12 (pos 0)) ∷ []) gives (pos 11 ∷ neg 44 ∷ []))
-    ∷ ((accumc (replicate 12 (pos 0)) lastOf12 ∷ accumd (replicate 12 (pos 0)) lastOf12 ∷ []) gives (neg 12 ∷ neg 44 ∷ []))
+    ∷ (outputs lastOf12 zeros ++ outputs zeros lastOf12 gives (pos 11 ∷ neg 44 ∷ neg 12 ∷ neg 44 ∷ []))
+    ∷ (outputs firstOf12 zeros ++ outputs zeros firstOf12 gives (neg 44 ∷ pos 11 ∷ pos 43 ∷ pos 11 ∷ []))
     ∷ []
 
 pub filters-hold : Hold filters
