@@ -1,7 +1,9 @@
 -- The promises: theorems over the definitions of `g722`.
-pub mod Calls
-pub mod Good
+pub mod Accepted
+pub mod Refused
+pub mod Through
 pub mod Sequences
+pub mod Range
+pub mod Good
 pub mod Ends
 pub mod Unheard
-pub mod Running
