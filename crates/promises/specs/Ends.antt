@@ -9,7 +9,7 @@ use Prim.Native.Nat.{ℕ, zero, suc, _+_, _*_, _/_}
 use native.Mathlib.Omega.{arith}
 use lib.IntN.{ℤ}
 use lib.ListN.{length, take}
-use lib.Seq.{take-nil, take-all}
+use lib.Seq.{take-nil, take-length, take-all}
 use Rattle.g722.specs.Band.{lowAfter, highAfter}
 use Rattle.g722.specs.Octet.{highWord, lowWord}
 use Rattle.g722.specs.Records.{resetCoder, resetDecoder}
@@ -60,8 +60,10 @@ step c d x y t s e = record {
 abbrev pub AsSent : ℕ → List ℕ → List Told → Type 0
 AsSent n sent ts = take n (map upperSix sent) ≡ take n (map upperSix (received ts))
 
--- n octets
-same-after : (n : ℕ) (c : Coder) (d : Decoder) (s : List ℤ) (ts : List Told) → SameBands c d → AsSent n (octetsOf c s) ts
+-- ---- a run at each end, from equal bands
+
+-- after n octets, where the first n came as they were sent
+pub same-after : (n : ℕ) (c : Coder) (d : Decoder) (s : List ℤ) (ts : List Told) → SameBands c d → AsSent n (octetsOf c s) ts
     → SameBands (coderAfter c (take (2 * n) s)) (decoderRun d (take n ts))
 unfolding octetsOf coderAfter decoderRun
 same-after zero c d s ts b e = b
@@ -75,7 +77,21 @@ same-after (suc n) c d (x ∷ y ∷ s) (t ∷ ts) b e =
     rw k (same-after n (coderStep c x y) (decoderStep (t .mode) d (t .octet)) s ts
     (step c d x y t b (head-eq-of-cons-eq e)) (tail-eq-of-cons-eq e))
 
-reset-same : SameBands resetCoder resetDecoder
+-- after all that came, as long as it came as it was sent
+pub same-behind : (c : Coder) (d : Decoder) (s : List ℤ) (ts : List Told) → SameBands c d → AsSent (length ts) (octetsOf c s) ts
+    → SameBands (coderAfter c (take (2 * length ts) s)) (decoderRun d ts)
+same-behind c d s ts b e = rw (take-length ts) at (same-after (length ts) c d s ts b e)
+
+-- and after all that was sent, once it has come
+pub same-at-end : (c : Coder) (d : Decoder) (s : List ℤ) (ts : List Told) → SameBands c d
+    → map upperSix (octetsOf c s) ≡ map upperSix (received ts) → SameBands (coderAfter c s) (decoderRun d ts)
+same-at-end c d s ts b e =
+    let n = length s + length ts in
+    rw (take-all (2 * n) s (omega arith), take-all n ts (omega arith)) at (same-after n c d s ts b (ap (take n) e))
+
+-- ---- calls from reset
+
+pub reset-same : SameBands resetCoder resetDecoder
 unfolding resetCoder resetDecoder
 reset-same = record { low = refl; high = refl }
 
@@ -84,25 +100,22 @@ reset-same = record { low = refl; high = refl }
 pub ends-equal : (ks : List CodeInput) (ts : List Told) (n : ℕ) → AsSent n (octetsThrough resetCoder ks) ts
     → SameBands (coderAfter resetCoder (take (2 * n) (samplesTaken resetCoder ks))) (decoderRun resetDecoder (take n ts))
 ends-equal ks ts n e =
-    same-after n resetCoder resetDecoder (samplesTaken resetCoder ks) ts reset-same
-    (ap (λ (l : List ℕ). take n (map upperSix l)) (sym (octets-as-one-run resetCoder ks)) ∙ e)
+    same-after n resetCoder resetDecoder (samplesTaken resetCoder ks) ts reset-same (rw (octets-as-one-run resetCoder ks) at e)
 
 module _ (ks : List CodeInput) (ds : List DecodeInput) where
+  abbrev came : List Told
+  came = octetsTaken resetDecoder ds
+
   -- so of the record that decoding calls give back, wherever they are cut, while they are behind what was sent
-  pub record-behind : AsSent (length (octetsTaken resetDecoder ds)) (octetsThrough resetCoder ks) (octetsTaken resetDecoder ds)
-      → SameBands (coderAfter resetCoder (take (2 * length (octetsTaken resetDecoder ds)) (samplesTaken resetCoder ks)))
-      (decoderThrough resetDecoder ds)
+  pub record-behind : AsSent (length came) (octetsThrough resetCoder ks) came
+      → SameBands (coderAfter resetCoder (take (2 * length came) (samplesTaken resetCoder ks))) (decoderThrough resetDecoder ds)
   record-behind e =
-      let ts = octetsTaken resetDecoder ds in
-      rw (decoder-as-one-run resetDecoder ds) (rw (take-all (length ts) ts (omega arith)) at (ends-equal ks ts (length ts) e))
+      rw (decoder-as-one-run resetDecoder ds)
+      (same-behind resetCoder resetDecoder (samplesTaken resetCoder ks) came reset-same (rw (octets-as-one-run resetCoder ks) at e))
 
   -- and of both records, where all that was sent has come
-  pub records-equal : map upperSix (octetsThrough resetCoder ks) ≡ map upperSix (received (octetsTaken resetDecoder ds))
+  pub records-equal : map upperSix (octetsThrough resetCoder ks) ≡ map upperSix (received came)
       → SameBands (coderThrough resetCoder ks) (decoderThrough resetDecoder ds)
   records-equal e =
-      let s = samplesTaken resetCoder ks in
-      let ts = octetsTaken resetDecoder ds in
-      let n = length s + length ts in
-      let h = ends-equal ks ts n (ap (take n) e) in
       rw (coder-as-one-run resetCoder ks, decoder-as-one-run resetDecoder ds)
-      (rw (take-all (2 * n) s (omega arith), take-all n ts (omega arith)) at h)
+      (same-at-end resetCoder resetDecoder (samplesTaken resetCoder ks) came reset-same (rw (octets-as-one-run resetCoder ks) at e))

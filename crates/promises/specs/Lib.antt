@@ -7,3 +7,5 @@ pub mod Range
 pub mod Good
 pub mod Ends
 pub mod Unheard
+pub mod Made
+pub mod Running
