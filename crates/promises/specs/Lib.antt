@@ -7,5 +7,6 @@ pub mod Range
 pub mod Good
 pub mod Ends
 pub mod Unheard
+pub mod Carried
 pub mod Made
 pub mod Running
