@@ -8,5 +8,6 @@ pub mod Good
 pub mod Ends
 pub mod Unheard
 pub mod Carried
+pub mod Witness
 pub mod Made
 pub mod Running
