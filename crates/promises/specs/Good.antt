@@ -27,6 +27,8 @@ use Rattle.g722.specs.declared.Coder.{Coder}
 use Rattle.g722.specs.declared.Decoder.{Decoder}
 use Rattle.promises.specs.Accepted.{coded-clean, coded-from-good, coded-run, decoded-from-good, decoded-run}
 use Rattle.promises.specs.Refused.{code-beside, decode-beside}
+use Rattle.promises.specs.Through.{through}
+use Rattle.promises.specs.Sequences.{CodeInput, coderThrough, DecodeInput, decoderThrough}
 use Rattle.promises.specs.Range.{both, left-true, right-true, is-within, equal-refl}
 use Rattle.promises.specs.Range.{range-append, range-drop, all-clean, rl-in-range, rh-in-range}
 
@@ -84,7 +86,8 @@ coder-run-good c (x ∷ y ∷ rest) g p =
     (right-true (inRange y) (allInRange rest) q)
 
 pub coder-reset-good : goodCoder resetCoder ≡ true
-unfolding goodCoder resetCoder resetBand goodLow goodHigh goodPoles goodFactors allInRange inRange within equal scalel scaleh scaleAt ila
+unfolding goodCoder resetCoder resetBand goodLow goodHigh goodPoles goodFactors allInRange inRange within equal
+    scalel scaleh scaleAt ila
 coder-reset-good = refl
 
 coded-good : (c : Coder) (s : List ℤ) (o : List ℕ) → codeCall c s o .answer .number ≡ 0
@@ -99,6 +102,12 @@ coder-stays-good c s o g =
     by-test (eqb (codeCall c s o .answer .number) 0)
     (λ e. coded-good c s o (eqb-true _ _ e))
     (λ e. rw (ap (λ p. p .0) (code-beside c s o .kept (eqb-false _ _ e))) g)
+
+-- and so any sequence of calls
+pub coder-always-good : (c : Coder) (ks : List CodeInput) → goodCoder c ≡ true → goodCoder (coderThrough c ks) ≡ true
+unfolding through
+coder-always-good c [] g = g
+coder-always-good c (k ∷ ks) g = coder-always-good _ ks (coder-stays-good c (k .samples) (k .octets) g)
 
 -- ---- the decoder
 
@@ -118,7 +127,8 @@ decoder-run-good mode d [] g = g
 decoder-run-good mode d (x ∷ rest) g = decoder-run-good mode (decoderStep mode d x) rest (decoder-step-good mode d x g)
 
 pub decoder-reset-good : goodDecoder resetDecoder ≡ true
-unfolding goodDecoder resetDecoder resetBand goodLow goodHigh goodPoles goodFactors allInRange inRange within equal scalel scaleh scaleAt ila
+unfolding goodDecoder resetDecoder resetBand goodLow goodHigh goodPoles goodFactors allInRange inRange within equal
+    scalel scaleh scaleAt ila
 decoder-reset-good = refl
 
 decoded-good : (d : Decoder) (told : ℕ) (o : List ℕ) (s : List ℤ) → decodeCall d told o s .answer .number ≡ 0
@@ -134,3 +144,8 @@ decoder-stays-good d told o s g =
     by-test (eqb (decodeCall d told o s .answer .number) 0)
     (λ e. decoded-good d told o s (eqb-true _ _ e))
     (λ e. rw (ap (λ p. p .0) (decode-beside d told o s .kept (eqb-false _ _ e))) g)
+
+pub decoder-always-good : (d : Decoder) (ks : List DecodeInput) → goodDecoder d ≡ true → goodDecoder (decoderThrough d ks) ≡ true
+unfolding through
+decoder-always-good d [] g = g
+decoder-always-good d (k ∷ ks) g = decoder-always-good _ ks (decoder-stays-good d (k .told) (k .octets) (k .samples) g)

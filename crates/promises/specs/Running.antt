@@ -25,7 +25,8 @@ use Rattle.g722.specs.declared.Decoded.{Decoded}
 use Rattle.promises.specs.Sequences.{coding, coding-runs, Told, decoderRun, samplesRun, decoding, decoding-runs}
 use Rattle.promises.specs.Ends.{received, SameBands, AsSent, same-after, same-behind, same-at-end, reset-same}
 use Rattle.promises.specs.Unheard.{AlikeCalls, answers-unheard, samples-unheard, record-unheard}
-use Rattle.promises.specs.Made.{Made, MadeFrom, lastOf, takenOf, leftsOf, made-record, made-answers, made-left, made-as-one-run, made-left-as-one-run}
+use Rattle.promises.specs.Made.{Made, MadeFrom, lastOf, takenOf, leftsOf, made-record, made-answers, made-left}
+use Rattle.promises.specs.Made.{made-as-one-run, made-left-as-one-run}
 
 -- ---- what the contracts allow
 
@@ -155,7 +156,8 @@ module _ (c : Coder) (d : Decoder) (p : Reset-coder c) (q : Reset-decoder d)
       rw (running-decoder d ds w) (same-behind c d (spoken ks) (came ds) same-reset (rw (running-octets c ks m) at e))
 
   -- the records that both answered, where all that was sent has come
-  pub running-records-equal : map upperSix (sent ks) ≡ map upperSix (received (came ds)) → SameBands (lastOf codings c ks) (lastOf decodings d ds)
+  pub running-records-equal : map upperSix (sent ks) ≡ map upperSix (received (came ds))
+      → SameBands (lastOf codings c ks) (lastOf decodings d ds)
   running-records-equal e =
       rw (running-coder c ks m, running-decoder d ds w) (same-at-end c d (spoken ks) (came ds) same-reset (rw (running-octets c ks m) at e))
 

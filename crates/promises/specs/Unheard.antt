@@ -42,15 +42,6 @@ Alike mode os rs = map (heardBits mode) os ≡ map (heardBits mode) rs
 
 -- ---- one octet
 
-upper : (mode o r : ℕ) → heardBits mode o ≡ heardBits mode r → upperSix o ≡ upperSix r
-unfolding heardBits
-upper mode o r e =
-    by-test (eqb mode 1)
-    (λ t. let h : o ≡ r = rw t at e in ap upperSix h)
-    (λ t. by-test (eqb mode 2)
-    (λ u. let h : o / 2 ≡ r / 2 = rw (t, u) at e in sym (shr-shr o 1 1) ∙ ap (λ (x : ℕ). x / 2) h ∙ shr-shr r 1 1)
-    (λ u. rw (t, u) at e))
-
 heard-low : (mode o r : ℕ) (det : ℤ) → heardBits mode o ≡ heardBits mode r → invqbl mode (lowWord o) det ≡ invqbl mode (lowWord r) det
 unfolding heardBits invqbl
 heard-low mode o r det e =
@@ -60,6 +51,15 @@ heard-low mode o r det e =
     (λ u. let h : o / 2 ≡ r / 2 = rw (t, u) at e in
     rw (t, u) (ap (λ (w : ℕ). inverse qq5 (fromFive w) det) (field o 5 1 ∙ ap (λ (x : ℕ). x % 32) h ∙ sym (field r 5 1))))
     (λ u. let h : o / 4 ≡ r / 4 = rw (t, u) at e in rw (t, u) (ap (λ (w : ℕ). inverse qq4 (fromFour w) det) (upper-low o r h))))
+
+upper : (mode o r : ℕ) → heardBits mode o ≡ heardBits mode r → upperSix o ≡ upperSix r
+unfolding heardBits
+upper mode o r e =
+    by-test (eqb mode 1)
+    (λ t. let h : o ≡ r = rw t at e in ap upperSix h)
+    (λ t. by-test (eqb mode 2)
+    (λ u. let h : o / 2 ≡ r / 2 = rw (t, u) at e in sym (shr-shr o 1 1) ∙ ap (λ (x : ℕ). x / 2) h ∙ shr-shr r 1 1)
+    (λ u. rw (t, u) at e))
 
 module _ (mode : ℕ) (d : Decoder) (o r : ℕ) (e : heardBits mode o ≡ heardBits mode r) where
   rl-same : rlRow mode d o ≡ rlRow mode d r
