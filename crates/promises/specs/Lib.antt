@@ -11,3 +11,4 @@ pub mod Carried
 pub mod Witness
 pub mod Made
 pub mod Running
+pub mod Allowed
