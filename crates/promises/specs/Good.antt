@@ -8,7 +8,6 @@ use Prim.Native.Nat.{ℕ}
 use borrow.Author.Tests.{eqb-true, eqb-false}
 use lib.Dec.{eqb}
 use lib.IntN.{ℤ, pos, negℤ, _-ℤ_}
-use lib.ListN.{drop}
 use lib.Signed.{_≤ℤ_, leZ-yes}
 use Rattle.laws.specs.Clamp.{clamp-within}
 use Rattle.laws.specs.Order.{zarith, sub-read, up-neg, dn-neg, by-test}

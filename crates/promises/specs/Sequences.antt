@@ -1,7 +1,7 @@
 -- Sequences of calls at both ends, refused ones among them: each gives the octets, or the samples, and the record of one run
 -- over what its accepted calls were given.
 -- Assumes nothing.
-use mathlib.Core.Path.{_≡_, refl, sym, ap, _∙_}
+use mathlib.Core.Path.{_≡_, refl, ap, _∙_}
 use mathlib.Core.List.{List, [], _∷_, _++_, map}
 use Prim.Native.Nat.{ℕ, zero, suc, _*_}
 use native.Mathlib.Omega.{arith}
@@ -17,7 +17,7 @@ use Rattle.g722.specs.declared.Decoder.{Decoder}
 use Rattle.g722.specs.declared.Decoded.{Decoded}
 use Rattle.promises.specs.Accepted.{twice, coded-fits, coded-run, decoded-run}
 use Rattle.promises.specs.Refused.{code-beside, decode-beside}
-use Rattle.promises.specs.Through.{Calls, Runs, through, answers, lefts, taken, as-one-run, left-as-one-run}
+use Rattle.promises.specs.Through.{Calls, Runs, through, lefts, taken, as-one-run, left-as-one-run}
 
 -- ---- coding
 
