@@ -12,12 +12,15 @@ use Rattle.laws.specs.One.{Lifetimes, Input, Answer, Claims, Claim, Allows}
 use Rattle.g722.specs.Records.{resetCoder, resetDecoder}
 use Rattle.g722.specs.Coding.{codeCall}
 use Rattle.g722.specs.Decoding.{decodeCall}
+use Rattle.g722.specs.Cue.{putCall}
 use Rattle.g722.specs.declared.Coder.{Coder}
 use Rattle.g722.specs.declared.Decoder.{Decoder}
 use Rattle.promises.specs.Through.{Calls}
 use Rattle.promises.specs.Sequences.{CodeInput, DecodeInput}
+use Rattle.promises.specs.Carried.{Parcel}
 use Rattle.promises.specs.Made.{Made, MadeFrom}
 use Rattle.promises.specs.Running.{Reset-coder, Reset-decoder, Coding, Decoding, codings, decodings}
+use Rattle.promises.specs.RunningData.{Putting, Puts, parcel}
 
 -- no atom of ghost state is asked anything
 atoms : Atoms 𝓗¹
@@ -82,7 +85,20 @@ decode d k =
       left = x .left;
     }
 
--- THE THEOREMS: both ends can be reset, and any calls can be made at each
+put : Parcel → Putting
+put x =
+    let y = putCall (x .mode) (x .octets) (x .bytes) in
+    record {
+      lifetimes = ([], ([], tt));
+      mode = x .mode;
+      octets = lent (x .octets);
+      bytes = lent (x .bytes);
+      answer = y .answer;
+      left = y .left;
+      samples = x .samples;
+    }
+
+-- THE THEOREMS: both ends can be reset, any calls can be made at each, and any data can be put in
 pub can-reset : Reset-coder resetCoder × Reset-decoder resetDecoder
 can-reset = (allowed refl, allowed refl)
 
@@ -93,3 +109,7 @@ can-code = all-made codings code (λ c k. refl) (λ c k. allowed (record { answe
 pub can-decode : (d : Decoder) (ks : List DecodeInput) → (ms : List Decoding) × MadeFrom decodings d ms × (map (decodings .input) ms ≡ ks)
 unfolding decode lent
 can-decode = all-made decodings decode (λ d k. refl) (λ d k. allowed (record { answer = refl; left = refl }))
+
+pub can-put : (x : Parcel) → (p : Putting) × Puts p × (parcel p ≡ x)
+unfolding put lent
+can-put x = (put x, allowed (record { answer = refl; left = refl }), refl)

@@ -40,7 +40,7 @@ abbrev pub withoutData : Parcel → DecodeInput
 withoutData p = record { told = p .mode; octets = p .octets; samples = p .samples }
 
 -- all upper six bits stay
-six-kept : (ps : List Parcel) → map upperSix (flatMap laden ps) ≡ map upperSix (flatMap (λ p. p .octets) ps)
+pub six-kept : (ps : List Parcel) → map upperSix (flatMap laden ps) ≡ map upperSix (flatMap (λ p. p .octets) ps)
 unfolding flatMap
 six-kept [] = refl
 six-kept (p ∷ ps) =
@@ -57,7 +57,7 @@ heard-kept (suc (suc zero)) octets bytes = upper-kept 2 octets bytes
 heard-kept (suc (suc (suc zero))) octets bytes = upper-kept 3 octets bytes
 heard-kept (suc (suc (suc (suc m)))) octets bytes = rw (lt-ltb 3 (suc (suc (suc (suc m)))) (omega arith))
 
-alike-calls : (ps : List Parcel) → AlikeCalls (map withData ps) (map withoutData ps)
+pub alike-calls : (ps : List Parcel) → AlikeCalls (map withData ps) (map withoutData ps)
 alike-calls [] = none
 alike-calls (p ∷ ps) = more (heard-kept (p .mode) (p .octets) (p .bytes)) refl (alike-calls ps)
 
