@@ -5,6 +5,7 @@ pub mod Refused
 -- sequences of calls
 pub mod Through
 pub mod Sequences
+pub mod Streams
 pub mod Range
 pub mod Good
 -- the two ends

@@ -139,23 +139,23 @@ decoding =
       out = samplesRun;
     }
 
-decoder-run : (mode : ℕ) (d : Decoder) (os : List ℕ) → decoderAfter mode d os ≡ decoderRun d (marked mode os)
+pub decoder-run : (mode : ℕ) (d : Decoder) (os : List ℕ) → decoderAfter mode d os ≡ decoderRun d (marked mode os)
 unfolding decoderRun decoderAfter
 decoder-run mode d [] = refl
 decoder-run mode d (o ∷ os) = decoder-run mode (decoderStep mode d o) os
 
-samples-run : (mode : ℕ) (d : Decoder) (os : List ℕ) → samplesOf mode d os ≡ samplesRun d (marked mode os)
+pub samples-run : (mode : ℕ) (d : Decoder) (os : List ℕ) → samplesOf mode d os ≡ samplesRun d (marked mode os)
 unfolding samplesRun samplesOf
 samples-run mode d [] = refl
 samples-run mode d (o ∷ os) =
     ap (λ (l : List ℤ). firstOf mode d o ∷ secondOf mode d o ∷ l) (samples-run mode (decoderStep mode d o) os)
 
-decoder-join : (d : Decoder) (ts rest : List Told) → decoderRun d (ts ++ rest) ≡ decoderRun (decoderRun d ts) rest
+pub decoder-join : (d : Decoder) (ts rest : List Told) → decoderRun d (ts ++ rest) ≡ decoderRun (decoderRun d ts) rest
 unfolding decoderRun
 decoder-join d [] rest = refl
 decoder-join d (t ∷ ts) rest = decoder-join (decoderStep (t .mode) d (t .octet)) ts rest
 
-samples-join : (d : Decoder) (ts rest : List Told) → samplesRun d (ts ++ rest) ≡ samplesRun d ts ++ samplesRun (decoderRun d ts) rest
+pub samples-join : (d : Decoder) (ts rest : List Told) → samplesRun d (ts ++ rest) ≡ samplesRun d ts ++ samplesRun (decoderRun d ts) rest
 unfolding samplesRun decoderRun
 samples-join d [] rest = refl
 samples-join d (t ∷ ts) rest =
