@@ -1,124 +1,172 @@
--- Demand 3 of the running code: the same two theorems, of whatever `coder::code` and `decoder::decode` answered and left, by what their contracts ensure.
+-- Demands 2 and 3 of the running code: of whatever the contracts of `coder::reset`, `coder::code`, `decoder::reset` and
+-- `decoder::decode` allow to be answered and left. They are the contracts that Rattle made of the functions' own clauses
+-- (`Allows`), and none is written out here.
 -- Assumes nothing.
-use mathlib.Core.Path.{_≡_, refl, sym, ap, _∙_}
-use mathlib.Core.List.{List, [], _∷_, _++_, map}
-use Prim.Native.Nat.{ℕ}
+use mathlib.Core.Path.{_≡_, sym, _∙_}
+use mathlib.Core.List.{List, map}
+use Prim.Native.Nat.{ℕ, _*_}
 use lib.IntN.{ℤ}
-use Rattle.laws.specs.Outcome.{Does}
+use lib.ListN.{length, take}
+use base.Stored.{coded-set, codedℕ, codedℤ, codedList}
+use denote.Ref.{RefT}
+use denote.Signature.{typeAt}
+use Rattle.laws.specs.One.{Allows, Lifetimes, claims}
+use Rattle.laws.specs.Outcome.{Outcome, Does}
+use Rattle.coder.proofs as coder
+use Rattle.decoder.proofs as decoder
 use Rattle.g722.specs.Records.{resetCoder, resetDecoder}
-use Rattle.g722.specs.Coding.{codeCall}
+use Rattle.g722.specs.Coding.{octetsOf, coderAfter, codeCall}
 use Rattle.g722.specs.Decoding.{decodeCall}
+use Rattle.facts.specs.Upper.{upperSix}
 use Rattle.g722.specs.declared.Coder.{Coder}
 use Rattle.g722.specs.declared.Coded.{Coded}
 use Rattle.g722.specs.declared.Decoder.{Decoder}
 use Rattle.g722.specs.declared.Decoded.{Decoded}
-use Rattle.promises.specs.Sequences.{CodeInput, AllCoded, coderThrough, octetsThrough, DecodeInput, AllDecoded, decoderThrough, samplesThrough, allTold}
-use Rattle.facts.specs.Upper.{upperSix}
-use Rattle.promises.specs.Ends.{received, SameBands, records-equal}
-use Rattle.promises.specs.Unheard.{AlikeCalls, samples-unheard, record-unheard}
+use Rattle.promises.specs.Sequences.{coding, coding-runs, Told, decoderRun, samplesRun, decoding, decoding-runs}
+use Rattle.promises.specs.Ends.{received, SameBands, AsSent, same-after, same-behind, same-at-end, reset-same}
+use Rattle.promises.specs.Unheard.{AlikeCalls, answers-unheard, samples-unheard, record-unheard}
+use Rattle.promises.specs.Made.{Made, MadeFrom, lastOf, takenOf, leftsOf, made-record, made-answers, made-left}
+use Rattle.promises.specs.Made.{made-as-one-run, made-left-as-one-run}
 
--- a call that was made: what it was handed, what it answered, what it left
+-- ---- what the contracts allow
+
+abbrev pub Reset-coder : Coder → Type 2
+Reset-coder c = Allows coder.reset.ended (λ M. coder.reset.clauses) tt tt c tt
+
+abbrev pub Reset-decoder : Decoder → Type 2
+Reset-decoder d = Allows decoder.reset.ended (λ M. decoder.reset.clauses) tt tt d tt
+
+-- a call that was made: the lifetimes and what was lent, what it answered, what it left
 pub record Coding : Type 0 where
-  pub input : CodeInput
+  pub lifetimes : Lifetimes coder.code.ended
+  pub samples : RefT (List ℤ)
+  pub octets : RefT (List ℕ)
   pub answer : Coded
   pub left : List ℕ
 
 pub record Decoding : Type 0 where
-  pub input : DecodeInput
+  pub lifetimes : Lifetimes decoder.decode.ended
+  pub told : ℕ
+  pub octets : RefT (List ℕ)
+  pub samples : RefT (List ℤ)
   pub answer : Decoded
   pub left : List ℤ
 
--- calls made one after the other, each with the record that the one before answered, each as its contract says
-unfoldable pub Coded-from : Coder → List Coding → Type 0
-Coded-from c [] = Unit {0}
-Coded-from c (k ∷ ks) =
-    Does (codeCall c (k .input .samples) (k .input .octets)) (k .answer) (k .left) × Coded-from (k .answer .next) ks
+abbrev pub Codes : Coder → Coding → Type 2
+Codes c k =
+    Allows coder.code.ended (λ M. coder.code.clauses) (k .lifetimes) (c, (k .samples, (k .octets, tt))) (k .answer)
+    (tt, (tt, (k .left, tt)))
 
-unfoldable pub Decoded-from : Decoder → List Decoding → Type 0
-Decoded-from d [] = Unit {0}
-Decoded-from d (k ∷ ks) =
-    Does (decodeCall d (k .input .told) (k .input .octets) (k .input .samples)) (k .answer) (k .left) × Decoded-from (k .answer .next) ks
+abbrev pub Decodes : Decoder → Decoding → Type 2
+Decodes d k =
+    Allows decoder.decode.ended (λ M. decoder.decode.clauses) (k .lifetimes) (d, (k .told, (k .octets, (k .samples, tt)))) (k .answer)
+    (tt, (tt, (tt, (k .left, tt))))
 
--- none was refused
-unfoldable pub AllSent : List Coding → Type 0
-AllSent [] = Unit {0}
-AllSent (k ∷ ks) = (k .answer .number ≡ 0) × AllSent ks
+-- ---- and that it is what the definitions give
 
-unfoldable pub AllHeard : List Decoding → Type 0
-AllHeard [] = Unit {0}
-AllHeard (k ∷ ks) = (k .answer .number ≡ 0) × AllHeard ks
+did-reset-coder : (c : Coder) → Reset-coder c → c ≡ resetCoder
+did-reset-coder c p = claims (coded-set (typeAt (coder.reset.ended .signature .result) tt .coded) c resetCoder) p (λ e. e)
 
--- the last record that was answered, and all that was left
-unfoldable pub lastCoder : Coder → List Coding → Coder
-lastCoder c [] = c
-lastCoder c (k ∷ ks) = lastCoder (k .answer .next) ks
+did-reset-decoder : (d : Decoder) → Reset-decoder d → d ≡ resetDecoder
+did-reset-decoder d p = claims (coded-set (typeAt (decoder.reset.ended .signature .result) tt .coded) d resetDecoder) p (λ e. e)
 
-unfoldable pub lastDecoder : Decoder → List Decoding → Decoder
-lastDecoder d [] = d
-lastDecoder d (k ∷ ks) = lastDecoder (k .answer .next) ks
+does-prop : {A B : Type 0} {x : Outcome A B} {r : A} {l : B} → IsSet A → IsSet B → IsProp (Does x r l)
+does-prop {x} {r} {l} f g p q =
+    λ i. record { answer = f r (x .answer) (p .answer) (q .answer) i; left = g l (x .left) (p .left) (q .left) i }
 
-unfoldable pub allSent : List Coding → List ℕ
-allSent [] = []
-allSent (k ∷ ks) = k .left ++ allSent ks
+pub did-code : (c : Coder) (k : Coding) → Codes c k → Does (codeCall c (k .samples .now) (k .octets .now)) (k .answer) (k .left)
+did-code c k p =
+    let answers = coded-set (typeAt (coder.code.ended .signature .result) (k .lifetimes) .coded) in
+    claims (does-prop answers (coded-set (codedList codedℕ))) p (λ e. e)
 
-unfoldable pub allHeard : List Decoding → List ℤ
-allHeard [] = []
-allHeard (k ∷ ks) = k .left ++ allHeard ks
+pub did-decode : (d : Decoder) (k : Decoding) → Decodes d k
+    → Does (decodeCall d (k .told) (k .octets .now) (k .samples .now)) (k .answer) (k .left)
+did-decode d k p =
+    let answers = coded-set (typeAt (decoder.decode.ended .signature .result) (k .lifetimes) .coded) in
+    claims (does-prop answers (coded-set (codedList codedℤ))) p (λ e. e)
 
--- what the calls were handed
-abbrev pub codeInputs : List Coding → List CodeInput
-codeInputs ks = map (λ (k : Coding). k .input) ks
+abbrev pub codings : Made coding
+codings =
+    record {
+      Call = Coding;
+      input = λ k. record { samples = k .samples .now; octets = k .octets .now };
+      answer = λ k. k .answer;
+      left = λ k. k .left;
+      Allowed = Codes;
+      did = did-code;
+    }
 
-abbrev pub decodeInputs : List Decoding → List DecodeInput
-decodeInputs ks = map (λ (k : Decoding). k .input) ks
+abbrev pub decodings : Made decoding
+decodings =
+    record {
+      Call = Decoding;
+      input = λ k. record { told = k .told; octets = k .octets .now; samples = k .samples .now };
+      answer = λ k. k .answer;
+      left = λ k. k .left;
+      Allowed = Decodes;
+      did = did-decode;
+    }
 
--- ---- what was answered is what the definitions give
+-- the octets that accepted calls left, and the samples that they were given
+abbrev pub sent : List Coding → List ℕ
+sent = leftsOf codings
 
-coded-all : (c : Coder) (ks : List Coding) → Coded-from c ks → AllSent ks → AllCoded c (codeInputs ks)
-unfolding Coded-from AllSent AllCoded
-coded-all c [] r a = tt
-coded-all c (k ∷ ks) r a =
-    (ap (λ (x : Coded). x .number) (sym (r .0 .answer)) ∙ a .0, rw (r .0 .answer) at (coded-all (k .answer .next) ks (r .1) (a .1)))
+abbrev pub spoken : List Coding → List ℤ
+spoken = takenOf codings
 
-last-coder : (c : Coder) (ks : List Coding) → Coded-from c ks → lastCoder c ks ≡ coderThrough c (codeInputs ks)
-unfolding Coded-from lastCoder coderThrough
-last-coder c [] r = refl
-last-coder c (k ∷ ks) r = last-coder (k .answer .next) ks (r .1) ∙ ap (λ (x : Coded). coderThrough (x .next) (codeInputs ks)) (r .0 .answer)
+-- the octets that accepted calls were given, with their modes, and the samples that they left
+abbrev pub came : List Decoding → List Told
+came = takenOf decodings
 
-sent-all : (c : Coder) (ks : List Coding) → Coded-from c ks → allSent ks ≡ octetsThrough c (codeInputs ks)
-unfolding Coded-from allSent octetsThrough
-sent-all c [] r = refl
-sent-all c (k ∷ ks) r =
-    λ i. r .0 .left i ++ (sent-all (k .answer .next) ks (r .1) ∙ ap (λ (x : Coded). octetsThrough (x .next) (codeInputs ks)) (r .0 .answer)) i
+abbrev pub heard : List Decoding → List ℤ
+heard = leftsOf decodings
 
-decoded-all : (d : Decoder) (ks : List Decoding) → Decoded-from d ks → AllHeard ks → AllDecoded d (decodeInputs ks)
-unfolding Decoded-from AllHeard AllDecoded
-decoded-all d [] r a = tt
-decoded-all d (k ∷ ks) r a =
-    (ap (λ (x : Decoded). x .number) (sym (r .0 .answer)) ∙ a .0, rw (r .0 .answer) at (decoded-all (k .answer .next) ks (r .1) (a .1)))
+-- ---- THE THEOREMS of demand 2: octets, samples and records of any calls that were made
 
-last-decoder : (d : Decoder) (ks : List Decoding) → Decoded-from d ks → lastDecoder d ks ≡ decoderThrough d (decodeInputs ks)
-unfolding Decoded-from lastDecoder decoderThrough
-last-decoder d [] r = refl
-last-decoder d (k ∷ ks) r = last-decoder (k .answer .next) ks (r .1) ∙ ap (λ (x : Decoded). decoderThrough (x .next) (decodeInputs ks)) (r .0 .answer)
+module _ (c : Coder) (ks : List Coding) (m : MadeFrom codings c ks) where
+  pub running-octets : sent ks ≡ octetsOf c (spoken ks)
+  running-octets = made-left-as-one-run codings coding-runs c ks m
 
-heard-all : (d : Decoder) (ks : List Decoding) → Decoded-from d ks → allHeard ks ≡ samplesThrough d (decodeInputs ks)
-unfolding Decoded-from allHeard samplesThrough
-heard-all d [] r = refl
-heard-all d (k ∷ ks) r =
-    λ i. r .0 .left i ++ (heard-all (k .answer .next) ks (r .1) ∙ ap (λ (x : Decoded). samplesThrough (x .next) (decodeInputs ks)) (r .0 .answer)) i
+  pub running-coder : lastOf codings c ks ≡ coderAfter c (spoken ks)
+  running-coder = made-as-one-run codings coding-runs c ks m
 
--- THE THEOREMS, of the running code
+module _ (d : Decoder) (ks : List Decoding) (m : MadeFrom decodings d ks) where
+  pub running-samples : heard ks ≡ samplesRun d (came ks)
+  running-samples = made-left-as-one-run decodings decoding-runs d ks m
 
-pub running-ends-equal : (ks : List Coding) (ds : List Decoding) → Coded-from resetCoder ks → AllSent ks → Decoded-from resetDecoder ds → AllHeard ds
-    → map upperSix (allSent ks) ≡ map upperSix (received (allTold (decodeInputs ds)))
-    → SameBands (lastCoder resetCoder ks) (lastDecoder resetDecoder ds)
-running-ends-equal ks ds r a q b e =
-    rw (last-coder resetCoder ks r, last-decoder resetDecoder ds q)
-    (records-equal (codeInputs ks) (coded-all resetCoder ks r a) (decodeInputs ds) (decoded-all resetDecoder ds q b)
-    (ap (λ (l : List ℕ). map upperSix l) (sym (sent-all resetCoder ks r)) ∙ e))
+  pub running-decoder : lastOf decodings d ks ≡ decoderRun d (came ks)
+  running-decoder = made-as-one-run decodings decoding-runs d ks m
 
-pub running-unheard : (d : Decoder) (ks js : List Decoding) → Decoded-from d ks → Decoded-from d js → AlikeCalls (decodeInputs ks) (decodeInputs js)
-    → (allHeard ks ≡ allHeard js) × (lastDecoder d ks ≡ lastDecoder d js)
-running-unheard d ks js r q a =
-    (heard-all d ks r ∙ samples-unheard d a ∙ sym (heard-all d js q), last-decoder d ks r ∙ record-unheard d a ∙ sym (last-decoder d js q))
+-- ---- THE THEOREMS of demand 3
+
+module _ (c : Coder) (d : Decoder) (p : Reset-coder c) (q : Reset-decoder d)
+    (ks : List Coding) (ds : List Decoding) (m : MadeFrom codings c ks) (w : MadeFrom decodings d ds) where
+  same-reset : SameBands c d
+  same-reset = rw (did-reset-coder c p, did-reset-decoder d q) reset-same
+
+  -- after the n-th octet, for every n up to which they came as they were sent, inside a call too
+  pub running-ends-equal : (n : ℕ) → AsSent n (sent ks) (came ds)
+      → SameBands (coderAfter c (take (2 * n) (spoken ks))) (decoderRun d (take n (came ds)))
+  running-ends-equal n e = same-after n c d (spoken ks) (came ds) same-reset (rw (running-octets c ks m) at e)
+
+  -- the record that the decoder answered, while it is behind what was sent
+  pub running-behind : AsSent (length (came ds)) (sent ks) (came ds)
+      → SameBands (coderAfter c (take (2 * length (came ds)) (spoken ks))) (lastOf decodings d ds)
+  running-behind e =
+      rw (running-decoder d ds w) (same-behind c d (spoken ks) (came ds) same-reset (rw (running-octets c ks m) at e))
+
+  -- the records that both answered, where all that was sent has come
+  pub running-records-equal : map upperSix (sent ks) ≡ map upperSix (received (came ds))
+      → SameBands (lastOf codings c ks) (lastOf decodings d ds)
+  running-records-equal e =
+      rw (running-coder c ks m, running-decoder d ds w) (same-at-end c d (spoken ks) (came ds) same-reset (rw (running-octets c ks m) at e))
+
+-- from equal records, calls that differ in cue bits alone: the same answers, the same samples, the same record
+pub running-unheard : (d : Decoder) (ks js : List Decoding) → MadeFrom decodings d ks → MadeFrom decodings d js
+    → AlikeCalls (map (decodings .input) ks) (map (decodings .input) js)
+    → (map (decodings .answer) ks ≡ map (decodings .answer) js) × (heard ks ≡ heard js) × (lastOf decodings d ks ≡ lastOf decodings d js)
+running-unheard d ks js m w a = (
+  made-answers decodings d ks m ∙ answers-unheard d a ∙ sym (made-answers decodings d js w),
+  made-left decodings d ks m ∙ samples-unheard d a ∙ sym (made-left decodings d js w),
+  made-record decodings d ks m ∙ record-unheard d a ∙ sym (made-record decodings d js w),
+)

@@ -1,17 +1,23 @@
--- Sequences of calls: any list of accepted calls gives the octets, or the samples, and the record of one run over their joined inputs.
+-- Sequences of calls at both ends, refused ones among them: each gives the octets, or the samples, and the record of one run
+-- over what its accepted calls were given.
 -- Assumes nothing.
-use mathlib.Core.Path.{_≡_, refl, sym, ap, _∙_}
-use mathlib.Core.List.{List, [], _∷_, _++_}
+use mathlib.Core.Path.{_≡_, refl, ap, _∙_}
+use mathlib.Core.List.{List, [], _∷_, _++_, map}
 use Prim.Native.Nat.{ℕ, zero, suc, _*_}
 use native.Mathlib.Omega.{arith}
+use borrow.Author.Tests.{eqb-true, eqb-false}
 use lib.IntN.{ℤ}
 use lib.ListN.{length}
 use Rattle.g722.specs.Quantise.{inForce}
 use Rattle.g722.specs.Coding.{coderStep, octetOf, octetsOf, coderAfter, coded, codeCall}
 use Rattle.g722.specs.Decoding.{firstOf, secondOf, decoderStep, samplesOf, decoderAfter, decoded, decodeCall}
 use Rattle.g722.specs.declared.Coder.{Coder}
+use Rattle.g722.specs.declared.Coded.{Coded}
 use Rattle.g722.specs.declared.Decoder.{Decoder}
-use Rattle.promises.specs.Calls.{twice, coded-fits, coded-run, decoded-run}
+use Rattle.g722.specs.declared.Decoded.{Decoded}
+use Rattle.promises.specs.Accepted.{twice, coded-fits, coded-run, decoded-run}
+use Rattle.promises.specs.Refused.{code-beside, decode-beside}
+use Rattle.promises.specs.Through.{Calls, Runs, through, lefts, taken, as-one-run, left-as-one-run}
 
 -- ---- coding
 
@@ -20,23 +26,21 @@ pub record CodeInput : Type 0 where
   pub samples : List ℤ
   pub octets : List ℕ
 
--- every call is accepted, each with the record that the one before gave
-unfoldable pub AllCoded : Coder → List CodeInput → Type 0
-AllCoded c [] = Unit {0}
-AllCoded c (k ∷ ks) = (codeCall c (k .samples) (k .octets) .answer .number ≡ 0) × AllCoded (codeCall c (k .samples) (k .octets) .answer .next) ks
-
--- the record that the calls end with, and the octets that they leave, one after the other
-unfoldable pub coderThrough : Coder → List CodeInput → Coder
-coderThrough c [] = c
-coderThrough c (k ∷ ks) = coderThrough (codeCall c (k .samples) (k .octets) .answer .next) ks
-
-unfoldable pub octetsThrough : Coder → List CodeInput → List ℕ
-octetsThrough c [] = []
-octetsThrough c (k ∷ ks) = codeCall c (k .samples) (k .octets) .left ++ octetsThrough (codeCall c (k .samples) (k .octets) .answer .next) ks
-
-unfoldable pub allSamples : List CodeInput → List ℤ
-allSamples [] = []
-allSamples (k ∷ ks) = k .samples ++ allSamples ks
+abbrev pub coding : Calls
+coding =
+    record {
+      State = Coder;
+      Input = CodeInput;
+      Answer = Coded;
+      Given = ℤ;
+      Item = ℕ;
+      call = λ c k. codeCall c (k .samples) (k .octets);
+      number = λ a. a .number;
+      next = λ a. a .next;
+      given = λ k. k .samples;
+      after = coderAfter;
+      out = octetsOf;
+    }
 
 -- a list of whole pairs
 data Pairs : List ℤ → Type 0 where
@@ -62,21 +66,35 @@ octets-join c t (more {x = x} {y = y} p) = ap (λ (l : List ℕ). octetOf c x y 
 whole : (c : Coder) (k : CodeInput) → codeCall c (k .samples) (k .octets) .answer .number ≡ 0 → Pairs (k .samples)
 whole c k h = pairs (k .samples) (length (k .octets)) (twice _ _ (coded-fits c (k .samples) (k .octets) h))
 
-pub coder-as-one-run : (c : Coder) (ks : List CodeInput) → AllCoded c ks → coderThrough c ks ≡ coderAfter c (allSamples ks)
-unfolding AllCoded coderThrough allSamples coded coderAfter
-coder-as-one-run c [] a = refl
-coder-as-one-run c (k ∷ ks) a =
-    coder-as-one-run _ ks (a .1)
-    ∙ ap (λ o. coderAfter (o .answer .next) (allSamples ks)) (coded-run c (k .samples) (k .octets) (a .0))
-    ∙ sym (coder-join c (allSamples ks) (whole c k (a .0)))
+pub coding-runs : Runs coding
+unfolding coded coderAfter octetsOf
+coding-runs =
+    record {
+      after-none = λ c. refl;
+      out-none = λ c. refl;
+      refused = λ c k e. ap (λ p. p .0) (code-beside c (k .samples) (k .octets) .kept (eqb-false _ _ e));
+      ran = λ c k e. ap (λ o. o .answer .next) (coded-run c (k .samples) (k .octets) (eqb-true _ _ e));
+      left = λ c k e. ap (λ o. o .left) (coded-run c (k .samples) (k .octets) (eqb-true _ _ e));
+      after-join = λ c k e rest. coder-join c rest (whole c k (eqb-true _ _ e));
+      out-join = λ c k e rest. octets-join c rest (whole c k (eqb-true _ _ e));
+    }
 
-pub octets-as-one-run : (c : Coder) (ks : List CodeInput) → AllCoded c ks → octetsThrough c ks ≡ octetsOf c (allSamples ks)
-unfolding AllCoded octetsThrough allSamples coded octetsOf
-octets-as-one-run c [] a = refl
-octets-as-one-run c (k ∷ ks) a =
-    ap (λ l. codeCall c (k .samples) (k .octets) .left ++ l) (octets-as-one-run _ ks (a .1))
-    ∙ ap (λ o. o .left ++ octetsOf (o .answer .next) (allSamples ks)) (coded-run c (k .samples) (k .octets) (a .0))
-    ∙ sym (octets-join c (allSamples ks) (whole c k (a .0)))
+-- the record that calls end with, the octets that the accepted ones left, and the samples that they were given
+abbrev pub coderThrough : Coder → List CodeInput → Coder
+coderThrough = through coding
+
+abbrev pub octetsThrough : Coder → List CodeInput → List ℕ
+octetsThrough = lefts coding
+
+abbrev pub samplesTaken : Coder → List CodeInput → List ℤ
+samplesTaken = taken coding
+
+-- THE THEOREMS, of coding
+pub coder-as-one-run : (c : Coder) (ks : List CodeInput) → coderThrough c ks ≡ coderAfter c (samplesTaken c ks)
+coder-as-one-run = as-one-run coding coding-runs
+
+pub octets-as-one-run : (c : Coder) (ks : List CodeInput) → octetsThrough c ks ≡ octetsOf c (samplesTaken c ks)
+octets-as-one-run = left-as-one-run coding coding-runs
 
 -- ---- decoding
 
@@ -85,20 +103,6 @@ pub record DecodeInput : Type 0 where
   pub told : ℕ
   pub octets : List ℕ
   pub samples : List ℤ
-
-unfoldable pub AllDecoded : Decoder → List DecodeInput → Type 0
-AllDecoded d [] = Unit {0}
-AllDecoded d (k ∷ ks) =
-    (decodeCall d (k .told) (k .octets) (k .samples) .answer .number ≡ 0) × AllDecoded (decodeCall d (k .told) (k .octets) (k .samples) .answer .next) ks
-
-unfoldable pub decoderThrough : Decoder → List DecodeInput → Decoder
-decoderThrough d [] = d
-decoderThrough d (k ∷ ks) = decoderThrough (decodeCall d (k .told) (k .octets) (k .samples) .answer .next) ks
-
-unfoldable pub samplesThrough : Decoder → List DecodeInput → List ℤ
-samplesThrough d [] = []
-samplesThrough d (k ∷ ks) =
-    decodeCall d (k .told) (k .octets) (k .samples) .left ++ samplesThrough (decodeCall d (k .told) (k .octets) (k .samples) .answer .next) ks
 
 -- an octet with the mode in force for it
 pub record Told : Type 0 where
@@ -112,41 +116,88 @@ decoderRun d (t ∷ rest) = decoderRun (decoderStep (t .mode) d (t .octet)) rest
 
 unfoldable pub samplesRun : Decoder → List Told → List ℤ
 samplesRun d [] = []
-samplesRun d (t ∷ rest) = firstOf (t .mode) d (t .octet) ∷ secondOf (t .mode) d (t .octet) ∷ samplesRun (decoderStep (t .mode) d (t .octet)) rest
+samplesRun d (t ∷ rest) =
+    firstOf (t .mode) d (t .octet) ∷ secondOf (t .mode) d (t .octet) ∷ samplesRun (decoderStep (t .mode) d (t .octet)) rest
 
--- the octets of a call, and of all calls, each with its call's mode
-unfoldable pub marked : ℕ → List ℕ → List Told
-marked mode [] = []
-marked mode (o ∷ rest) = record { mode = mode; octet = o } ∷ marked mode rest
+-- the octets of a call, each with the call's mode
+abbrev pub marked : ℕ → List ℕ → List Told
+marked mode os = map (λ (o : ℕ). record { mode = mode; octet = o }) os
 
-unfoldable pub allTold : List DecodeInput → List Told
-allTold [] = []
-allTold (k ∷ ks) = marked (inForce (k .told)) (k .octets) ++ allTold ks
+abbrev pub decoding : Calls
+decoding =
+    record {
+      State = Decoder;
+      Input = DecodeInput;
+      Answer = Decoded;
+      Given = Told;
+      Item = ℤ;
+      call = λ d k. decodeCall d (k .told) (k .octets) (k .samples);
+      number = λ a. a .number;
+      next = λ a. a .next;
+      given = λ k. marked (inForce (k .told)) (k .octets);
+      after = decoderRun;
+      out = samplesRun;
+    }
 
-decoder-join : (mode : ℕ) (d : Decoder) (os : List ℕ) (rest : List Told) → decoderRun d (marked mode os ++ rest) ≡ decoderRun (decoderAfter mode d os) rest
-unfolding decoderRun marked decoderAfter
-decoder-join mode d [] rest = refl
-decoder-join mode d (o ∷ os) rest = decoder-join mode (decoderStep mode d o) os rest
+pub decoder-run : (mode : ℕ) (d : Decoder) (os : List ℕ) → decoderAfter mode d os ≡ decoderRun d (marked mode os)
+unfolding decoderRun decoderAfter
+decoder-run mode d [] = refl
+decoder-run mode d (o ∷ os) = decoder-run mode (decoderStep mode d o) os
 
-samples-join : (mode : ℕ) (d : Decoder) (os : List ℕ) (rest : List Told)
-    → samplesRun d (marked mode os ++ rest) ≡ samplesOf mode d os ++ samplesRun (decoderAfter mode d os) rest
-unfolding samplesRun marked samplesOf decoderAfter
-samples-join mode d [] rest = refl
-samples-join mode d (o ∷ os) rest =
-    ap (λ (l : List ℤ). firstOf mode d o ∷ secondOf mode d o ∷ l) (samples-join mode (decoderStep mode d o) os rest)
+pub samples-run : (mode : ℕ) (d : Decoder) (os : List ℕ) → samplesOf mode d os ≡ samplesRun d (marked mode os)
+unfolding samplesRun samplesOf
+samples-run mode d [] = refl
+samples-run mode d (o ∷ os) =
+    ap (λ (l : List ℤ). firstOf mode d o ∷ secondOf mode d o ∷ l) (samples-run mode (decoderStep mode d o) os)
 
-pub decoder-as-one-run : (d : Decoder) (ks : List DecodeInput) → AllDecoded d ks → decoderThrough d ks ≡ decoderRun d (allTold ks)
-unfolding AllDecoded decoderThrough allTold decoded decoderRun
-decoder-as-one-run d [] a = refl
-decoder-as-one-run d (k ∷ ks) a =
-    decoder-as-one-run _ ks (a .1)
-    ∙ ap (λ o. decoderRun (o .answer .next) (allTold ks)) (decoded-run d (k .told) (k .octets) (k .samples) (a .0))
-    ∙ sym (decoder-join (inForce (k .told)) d (k .octets) (allTold ks))
+pub decoder-join : (d : Decoder) (ts rest : List Told) → decoderRun d (ts ++ rest) ≡ decoderRun (decoderRun d ts) rest
+unfolding decoderRun
+decoder-join d [] rest = refl
+decoder-join d (t ∷ ts) rest = decoder-join (decoderStep (t .mode) d (t .octet)) ts rest
 
-pub samples-as-one-run : (d : Decoder) (ks : List DecodeInput) → AllDecoded d ks → samplesThrough d ks ≡ samplesRun d (allTold ks)
-unfolding AllDecoded samplesThrough allTold decoded samplesRun
-samples-as-one-run d [] a = refl
-samples-as-one-run d (k ∷ ks) a =
-    ap (λ l. decodeCall d (k .told) (k .octets) (k .samples) .left ++ l) (samples-as-one-run _ ks (a .1))
-    ∙ ap (λ o. o .left ++ samplesRun (o .answer .next) (allTold ks)) (decoded-run d (k .told) (k .octets) (k .samples) (a .0))
-    ∙ sym (samples-join (inForce (k .told)) d (k .octets) (allTold ks))
+pub samples-join : (d : Decoder) (ts rest : List Told) → samplesRun d (ts ++ rest) ≡ samplesRun d ts ++ samplesRun (decoderRun d ts) rest
+unfolding samplesRun decoderRun
+samples-join d [] rest = refl
+samples-join d (t ∷ ts) rest =
+    ap (λ (l : List ℤ). firstOf (t .mode) d (t .octet) ∷ secondOf (t .mode) d (t .octet) ∷ l)
+    (samples-join (decoderStep (t .mode) d (t .octet)) ts rest)
+
+module _ (d : Decoder) (k : DecodeInput) (h : decodeCall d (k .told) (k .octets) (k .samples) .answer .number ≡ 0) where
+  heard-record : decodeCall d (k .told) (k .octets) (k .samples) .answer .next ≡ decoderRun d (marked (inForce (k .told)) (k .octets))
+  unfolding decoded
+  heard-record =
+      ap (λ o. o .answer .next) (decoded-run d (k .told) (k .octets) (k .samples) h) ∙ decoder-run (inForce (k .told)) d (k .octets)
+
+  heard-samples : decodeCall d (k .told) (k .octets) (k .samples) .left ≡ samplesRun d (marked (inForce (k .told)) (k .octets))
+  unfolding decoded
+  heard-samples = ap (λ o. o .left) (decoded-run d (k .told) (k .octets) (k .samples) h) ∙ samples-run (inForce (k .told)) d (k .octets)
+
+pub decoding-runs : Runs decoding
+unfolding decoderRun samplesRun
+decoding-runs =
+    record {
+      after-none = λ d. refl;
+      out-none = λ d. refl;
+      refused = λ d k e. ap (λ p. p .0) (decode-beside d (k .told) (k .octets) (k .samples) .kept (eqb-false _ _ e));
+      ran = λ d k e. heard-record d k (eqb-true _ _ e);
+      left = λ d k e. heard-samples d k (eqb-true _ _ e);
+      after-join = λ d k e rest. decoder-join d (marked (inForce (k .told)) (k .octets)) rest;
+      out-join = λ d k e rest. samples-join d (marked (inForce (k .told)) (k .octets)) rest;
+    }
+
+-- the record that calls end with, the samples that the accepted ones left, and the octets that they were given, with their modes
+abbrev pub decoderThrough : Decoder → List DecodeInput → Decoder
+decoderThrough = through decoding
+
+abbrev pub samplesThrough : Decoder → List DecodeInput → List ℤ
+samplesThrough = lefts decoding
+
+abbrev pub octetsTaken : Decoder → List DecodeInput → List Told
+octetsTaken = taken decoding
+
+-- THE THEOREMS, of decoding
+pub decoder-as-one-run : (d : Decoder) (ks : List DecodeInput) → decoderThrough d ks ≡ decoderRun d (octetsTaken d ks)
+decoder-as-one-run = as-one-run decoding decoding-runs
+
+pub samples-as-one-run : (d : Decoder) (ks : List DecodeInput) → samplesThrough d ks ≡ samplesRun d (octetsTaken d ks)
+samples-as-one-run = left-as-one-run decoding decoding-runs

@@ -1,0 +1,105 @@
+-- What is limited is in range: the transmit filter's two signals, the heard signals, and every sample that a decoder gives.
+-- Assumes nothing.
+use mathlib.Core.Path.{_≡_, refl, sym}
+use mathlib.Core.Bool.{Bool, true, false, _&&_}
+use mathlib.Core.List.{List, [], _∷_, _++_}
+use Prim.Native.Nat.{ℕ, zero, suc, _≤_}
+use native.Mathlib.Nat.{le-of-suc-le-suc}
+use native.Mathlib.Omega.{arith}
+use lib.Dec.{T}
+use lib.IntN.{ℤ, pos}
+use lib.ListN.{length, drop}
+use lib.Signed.{leZ, _≤ℤ_, leZ-yes, ≤ℤ-refl}
+use Rattle.laws.specs.Clamp.{clamp-within}
+use Rattle.laws.specs.Order.{by-test, no}
+use Rattle.g722.specs.Arithmetic.{neg, limit, within, equal}
+use Rattle.g722.specs.Mirror.{lowt, hight, accumc, accumd}
+use Rattle.g722.specs.Records.{inRange, allInRange}
+use Rattle.g722.specs.Coding.{firstBad}
+use Rattle.g722.specs.Decoding.{rlOf, rhOf, firstOf, secondOf, decoderStep}
+use Rattle.g722.specs.declared.Band.{Band}
+use Rattle.g722.specs.declared.Decoder.{Decoder}
+use Rattle.promises.specs.Sequences.{DecodeInput, samplesThrough, Told, octetsTaken, samplesRun, samples-as-one-run}
+
+-- ---- tests
+
+pub both : {a b : Bool} → a ≡ true → b ≡ true → (a && b) ≡ true
+both p q = rw (p, q)
+
+pub left-true : (a b : Bool) → (a && b) ≡ true → a ≡ true
+left-true true b e = refl
+left-true false b e = e
+
+pub right-true : (a b : Bool) → (a && b) ≡ true → b ≡ true
+right-true true b e = e
+right-true false b e = no (sym e)
+
+holds : (t : Bool) → T t → t ≡ true
+holds true x = refl
+holds false x = absurd x
+
+le-true : {a b : ℤ} → a ≤ℤ b → leZ a b ≡ true
+le-true {a} {b} h = holds (leZ a b) (h .le)
+
+pub is-within : {lo hi z : ℤ} → lo ≤ℤ z → z ≤ℤ hi → within lo hi z ≡ true
+unfolding within
+is-within l h = both (le-true l) (le-true h)
+
+pub equal-refl : (z : ℤ) → equal z z ≡ true
+unfolding equal
+equal-refl z = is-within (≤ℤ-refl z) (≤ℤ-refl z)
+
+-- ---- lists in range
+
+pub range-append : (xs ys : List ℤ) → allInRange xs ≡ true → allInRange ys ≡ true → allInRange (xs ++ ys) ≡ true
+unfolding allInRange
+range-append [] ys p q = q
+range-append (x ∷ xs) ys p q =
+    both (left-true (inRange x) (allInRange xs) p) (range-append xs ys (right-true (inRange x) (allInRange xs) p) q)
+
+pub range-drop : (n : ℕ) (xs : List ℤ) → allInRange xs ≡ true → allInRange (drop n xs) ≡ true
+unfolding allInRange
+range-drop zero xs p = p
+range-drop (suc n) [] p = refl
+range-drop (suc n) (x ∷ xs) p = range-drop n xs (right-true (inRange x) (allInRange xs) p)
+
+pub all-clean : (s : List ℤ) → length s ≤ firstBad s → allInRange s ≡ true
+unfolding allInRange firstBad
+all-clean [] h = refl
+all-clean (x ∷ rest) h =
+    by-test (inRange x)
+    (λ e. let k : suc (length rest) ≤ suc (firstBad rest) = rw e at h in both e (all-clean rest (le-of-suc-le-suc k)))
+    (λ e. absurd (let k : suc (length rest) ≤ zero = rw e at h in omega arith))
+
+-- ---- THE THEOREMS
+
+pub limited : (z : ℤ) → inRange (limit z) ≡ true
+unfolding inRange limit
+limited z = let d = clamp-within (neg 16384) (pos 16383) z (leZ-yes tt) in is-within (d .0) (d .1)
+
+-- XL and XH
+pub lowt-in-range : (x : List ℤ) → inRange (lowt x) ≡ true
+unfolding lowt
+lowt-in-range x = limited _
+
+pub hight-in-range : (x : List ℤ) → inRange (hight x) ≡ true
+unfolding hight
+hight-in-range x = limited _
+
+-- RL and RH
+pub rl-in-range : (mode : ℕ) (s : Band) (o : ℕ) → inRange (rlOf mode s o) ≡ true
+unfolding rlOf
+rl-in-range mode s o = limited _
+
+pub rh-in-range : (s : Band) (o : ℕ) → inRange (rhOf s o) ≡ true
+unfolding rhOf
+rh-in-range s o = limited _
+
+-- XOUT1 and XOUT2, over a run and over any sequence of calls
+run-in-range : (d : Decoder) (ts : List Told) → allInRange (samplesRun d ts) ≡ true
+unfolding samplesRun firstOf secondOf accumc accumd allInRange
+run-in-range d [] = refl
+run-in-range d (t ∷ ts) = both (limited _) (both (limited _) (run-in-range (decoderStep (t .mode) d (t .octet)) ts))
+
+pub samples-in-range : (d : Decoder) (ks : List DecodeInput) → allInRange (samplesThrough d ks) ≡ true
+samples-in-range d ks = rw (samples-as-one-run d ks) (run-in-range d (octetsTaken d ks))

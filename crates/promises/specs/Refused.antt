@@ -1,0 +1,79 @@
+-- A refused call changes nothing, and only number 4 has an index: of each call on a record, on data, and on a chunk of a stream.
+-- Assumes nothing.
+use mathlib.Core.Path.{_≡_, refl}
+use mathlib.Core.Bool.{_||_, not}
+use mathlib.Core.List.{List}
+use Prim.Native.Nat.{ℕ, _*_}
+use borrow.Author.Tests.{ne-eqb}
+use lib.Dec.{ltb, eqb}
+use lib.IntN.{ℤ}
+use lib.ListN.{length}
+use Rattle.laws.specs.Order.{by-test}
+use Rattle.g722.specs.Records.{goodCoder, goodDecoder}
+use Rattle.g722.specs.Coding.{firstBad, misfit, notCoded, coded, codeCall}
+use Rattle.g722.specs.Decoding.{notDecoded, decoded, decodeCall}
+use Rattle.g722.specs.Cue.{dataCall, putCall, takeCall}
+use Rattle.pcm.specs.Chunks.{encodeChunk, notStored, asBytes, decodeChunk}
+use Rattle.g722.specs.declared.Coder.{Coder}
+use Rattle.g722.specs.declared.Decoder.{Decoder}
+
+-- what is so beside every number: any but 0 gives back what was handed in as it came, and any but 4 has index 0
+pub record Beside (number index : ℕ) {X : Type 0} (back came : X) : Type 0 where
+  pub kept : (number ≡ 0 → ⊥) → back ≡ came
+  pub plain : (number ≡ 4 → ⊥) → index ≡ 0
+
+unchanged : {number : ℕ} {X : Type 0} {x : X} → Beside number 0 x x
+unchanged = record { kept = λ h. refl; plain = λ h. refl }
+
+accepted : {X : Type 0} {back came : X} → Beside 0 0 back came
+accepted = record { kept = λ h. absurd (h refl); plain = λ h. refl }
+
+-- THE THEOREMS: the record and what was lent, of each call
+
+pub code-beside : (c : Coder) (s : List ℤ) (o : List ℕ) → let x = codeCall c s o in
+    Beside (x .answer .number) (x .answer .index) {X = Coder × List ℕ} (x .answer .next, x .left) (c, o)
+unfolding codeCall notCoded coded
+code-beside c s o =
+    by-test (misfit (length s) (length o)) (λ e. rw e unchanged) (λ e.
+    by-test (goodCoder c) (λ f.
+    by-test (ltb (firstBad s) (length s))
+    (λ g. rw (e, f, g) (record { kept = λ h. refl; plain = λ h. absurd (h refl) }))
+    (λ g. rw (e, f, g) accepted))
+    (λ f. rw (e, f) unchanged))
+
+pub decode-beside : (d : Decoder) (told : ℕ) (o : List ℕ) (s : List ℤ) → let x = decodeCall d told o s in
+    Beside (x .answer .number) (x .answer .index) {X = Decoder × List ℤ} (x .answer .next, x .left) (d, s)
+unfolding decodeCall notDecoded decoded
+decode-beside d told o s =
+    by-test (ltb 3 told) (λ e. rw e unchanged) (λ e.
+    by-test (misfit (length s) (length o)) (λ f. rw (e, f) unchanged) (λ f.
+    by-test (goodDecoder d) (λ g. rw (e, f, g) accepted) (λ g. rw (e, f, g) unchanged)))
+
+-- a data call has no record, and what it leaves alone is lent
+data-beside : (number : ℕ) (old new : List ℕ) → Beside number 0 (dataCall number old new .left) old
+unfolding dataCall
+data-beside number old new = record { kept = λ h. rw (ne-eqb number 0 h); plain = λ h. refl }
+
+pub put-beside : (mode : ℕ) (octets bytes : List ℕ) → let x = putCall mode octets bytes in
+    Beside (x .answer .number) (x .answer .index) (x .left) octets
+unfolding putCall dataCall
+put-beside mode octets bytes = data-beside _ octets _
+
+pub take-beside : (mode : ℕ) (octets bytes : List ℕ) → let x = takeCall mode octets bytes in
+    Beside (x .answer .number) (x .answer .index) (x .left) bytes
+unfolding takeCall dataCall
+take-beside mode octets bytes = data-beside _ bytes _
+
+pub encode-chunk-beside : (c : Coder) (bytes octets : List ℕ) → let x = encodeChunk c bytes octets in
+    Beside (x .answer .number) (x .answer .index) {X = Coder × List ℕ} (x .answer .next, x .left) (c, octets)
+unfolding encodeChunk notCoded
+encode-chunk-beside c bytes octets =
+    by-test (eqb (length bytes) (4 * length octets)) (λ e. rw e (code-beside c _ octets)) (λ e. rw e unchanged)
+
+pub decode-chunk-beside : (d : Decoder) (told : ℕ) (octets bytes : List ℕ) → let x = decodeChunk d told octets bytes in
+    Beside (x .answer .number) (x .answer .index) {X = Decoder × List ℕ} (x .answer .next, x .left) (d, bytes)
+unfolding decodeChunk notStored asBytes decoded
+decode-chunk-beside d told octets bytes =
+    by-test (ltb 3 told) (λ e. rw e unchanged) (λ e.
+    by-test (ltb 8000 (length octets) || not (eqb (length bytes) (4 * length octets))) (λ f. rw (e, f) unchanged) (λ f.
+    by-test (goodDecoder d) (λ g. rw (e, f, g) accepted) (λ g. rw (e, f, g) unchanged)))
