@@ -17,16 +17,6 @@ use Rattle.g722.specs.Decoding.{notDecoded, decoded, decodeCall}
 use Rattle.g722.specs.declared.Coder.{Coder}
 use Rattle.g722.specs.declared.Decoder.{Decoder}
 
--- lengths that pass
-passed : (a b : Bool) → (a || not b) ≡ false → b ≡ true
-passed true b e = no e
-passed false true e = refl
-passed false false e = no e
-
-pub twice : (samples octets : ℕ) → misfit samples octets ≡ false → samples ≡ 2 * octets
-unfolding misfit
-twice s o e = eqb-true s (2 * o) (passed (ltb 8000 o) (eqb s (2 * o)) e)
-
 module _ (c : Coder) (s : List ℤ) (o : List ℕ) (h : codeCall c s o .answer .number ≡ 0) where
   pub coded-fits : misfit (length s) (length o) ≡ false
   unfolding codeCall notCoded

@@ -15,7 +15,8 @@ use Rattle.g722.specs.declared.Coder.{Coder}
 use Rattle.g722.specs.declared.Coded.{Coded}
 use Rattle.g722.specs.declared.Decoder.{Decoder}
 use Rattle.g722.specs.declared.Decoded.{Decoded}
-use Rattle.promises.specs.Accepted.{twice, coded-fits, coded-run, decoded-run}
+use Rattle.facts.specs.Lengths.{twice}
+use Rattle.promises.specs.Accepted.{coded-fits, coded-run, decoded-run}
 use Rattle.promises.specs.Refused.{code-beside, decode-beside}
 use Rattle.promises.specs.Through.{Calls, Runs, through, lefts, taken, as-one-run, left-as-one-run}
 
