@@ -1,4 +1,4 @@
--- The public functions of `cue`, each by its own contract: it asks nothing of its input, and leaves one answer and one content of lent memory.
+-- The public functions of `cue`, each by its own contract: it asks nothing, and leaves one answer and one content of lent memory.
 use base.Stored.{codedList, codedℕ}
 use Rattle.laws.specs.One.{LeavesOne, call}
 use Rattle.cue.proofs as cue

@@ -1,4 +1,4 @@
--- The public functions of `recording`, each by its own contract: it asks nothing of its input, and leaves one answer and one content of lent memory.
+-- The public functions of `recording`, each by its own contract: it asks nothing, and leaves one answer and one content of lent memory.
 use mathlib.Core.Path.{_≡_, refl, sym, _∙_}
 use mathlib.Core.List.{List}
 use Prim.Native.Nat.{ℕ}
