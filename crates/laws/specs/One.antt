@@ -1,6 +1,6 @@
 -- What it is for a function's contract to leave one answer, and the three forms of contract here that do.
--- The contract is the function's own: `ended` and `clauses` are what Rattle makes of its signature and of its `ensures`, and are what its
--- proof was held to. A statement on them is about the code; one on a copy of the contract would still hold where the contract was weakened.
+-- The contract is the function's own: `ended` and `clauses` are what Rattle makes of its signature and its clauses, and what its proof
+-- is held to. Of a copy of the contract, written out beside it, the same could be proved while the contract itself is weakened.
 -- Assumes nothing.
 use mathlib.Core.Path.{_≡_, refl, sym, _∙_}
 use mathlib.Core.Logic.{∥∥₁-elim}
@@ -22,12 +22,12 @@ use denote.Triple.Spec.{Meets}
 use denote.Triple.Clauses.{Ended, Clauses, Lasts, AtExit, atExit, closing}
 use Rattle.laws.specs.Outcome.{Outcome, Does, once}
 
--- a contract: the clauses of a function with the signature T, in every model of memory
+-- a contract: the clauses of a function of signature T, in every model of memory
 abbrev pub Contract : Ended → Type 2
 Contract T = (M : Type 1) (𝓤 : URA M) (H : Heap 𝓤) → Atoms 𝓤 → (Memory → SProp 𝓤) → (Routine → Fun 𝓤) → Clauses 𝓤 T
 
 module _ (T : Ended) where
-  -- the lifetimes that a signature speaks of, one for each of its references; most have none
+  -- the lifetimes of the references in the signature
   abbrev pub Lifetimes : Type 0
   Lifetimes = Lfts (T .signature .lifetimes)
 
@@ -39,8 +39,8 @@ module _ (T : Ended) where
   abbrev pub Answer : Lifetimes → Type 0
   Answer κs = Res (T .signature) κs
 
-  -- The contract allows, on the input a, the answer r with l left in the memory that was lent: in some model its `ensures` holds of them.
-  -- (`Lasts` is what is left of each parameter: nothing of a number or of `&[u8]`, the last content of `&mut [u8]`.)
+  -- On the input a the contract allows the answer r with l left in lent memory: in some model its `ensures` holds of them.
+  -- `Lasts` has a part for each parameter: of a `&mut [u8]` its last content, and of what cannot be written in nothing.
   pub record Allows (c : Contract T) (κs : Lifetimes) (a : Input κs) (r : Answer κs) (l : Lasts T κs a) : Type 2 where
     pub M : Type 1
     pub 𝓤 : URA M
@@ -58,8 +58,8 @@ module _ (T : Ended) where
       (M : Type 1) (𝓤 : URA M) (H : Heap 𝓤) (𝓜 : Model 𝓤 H) (𝓖 : GhostRules 𝓤 H) (𝓡 : Running 𝓤 H 𝓜)
       → Meets 𝓤 H (𝓖 .A) (T .signature) (𝓡 .run ρ) (closing 𝓤 H (𝓖 .A) T (c M 𝓤 H (𝓖 .A) (𝓜 .mem) (𝓡 .run)))
 
-  -- The code ρ meets the contract; the contract asks nothing of an input; and any two answers that it allows on an input are equal, and
-  -- so are any two contents of lent memory. So no other function, and no careless one, meets it.
+  -- The code ρ meets the contract; the contract asks nothing of an input; and any two answers that it allows on one input are equal, as
+  -- are any two contents of lent memory. So whatever else meets the contract answers as ρ does, and leaves what ρ leaves.
   pub record LeavesOne (c : Contract T) (ρ : Routine) : Type 2 where
     pub met : Met c ρ
     pub asks : (M : Type 1) (𝓤 : URA M) (H : Heap 𝓤) (A : Atoms 𝓤) (mem : Memory → SProp 𝓤) (run : Routine → Fun 𝓤)
@@ -68,7 +68,7 @@ module _ (T : Ended) where
     pub one : (κs : Lifetimes) (a : Input κs) (r s : Answer κs) (l m : Lasts T κs a)
         → Allows c κs a r l → Allows c κs a s m → (r ≡ s) × (l ≡ m)
 
-  -- ---- the contracts of this project: one plain claim on input, answer and what is left, and nothing asked
+  -- ---- a contract of one claim, on the input, the answer and what is left, that asks nothing: as all here are
   abbrev pub Claims : Type 1
   Claims = (κs : Lifetimes) → Input κs → Answer κs → AtExit T κs → Type 0
 
@@ -76,12 +76,12 @@ module _ (T : Ended) where
   Claim φ M 𝓤 H A mem run κs a = record { ghost = Unit {0}; requires = λ g. emp 𝓤; ensures = λ g r e. fact 𝓤 (φ κs a r e) }
 
 module _ {T : Ended} where
-  -- what such a contract allows, its claim holds of
+  -- the claim holds of what such a contract allows: a proof of anything that has no two proofs may use it
   pub claims : {φ : Claims T} {κs : Lifetimes T} {a : Input T κs} {r : Answer T κs} {l : Lasts T κs a} {Z : Type 0}
       → IsProp Z → Allows T (Claim T φ) κs a r l → (φ κs a r (atExit T κs a l) → Z) → Z
   claims prop p f = ∥∥₁-elim (p .ensured) prop (λ i. f (i .0))
 
-  -- It leaves one answer where the claim leaves one, and one value of what is seen of the lent memory, if that is all that is left there.
+  -- The contract leaves one answer where the claim does, with one value of what is seen of lent memory, which is all that is left there.
   leaves : {φ : Claims T} {ρ : Routine} {X : Type 0} → Coded X → (see : (κs : Lifetimes T) → AtExit T κs → X)
       → ((κs : Lifetimes T) (a : Input T κs) (l m : Lasts T κs a) → see κs (atExit T κs a l) ≡ see κs (atExit T κs a m) → l ≡ m)
       → ((κs : Lifetimes T) (a : Input T κs) (r s : Answer T κs) (e f : AtExit T κs)
