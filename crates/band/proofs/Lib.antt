@@ -1,2 +1,3 @@
 -- What the proofs of `band` share.
 pub mod Laws
+pub mod Unique

@@ -1,3 +1,4 @@
 -- What several proofs of this crate cite.
 pub mod Sums
 pub mod Copies
+pub mod Unique
