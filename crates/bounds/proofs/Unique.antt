@@ -3,6 +3,9 @@ use mathlib.Core.Path.{refl}
 use Rattle.laws.specs.One.{LeavesOne, equation}
 use Rattle.bounds.proofs as bounds
 
+pub misfit : LeavesOne bounds.misfit.ended (λ M. bounds.misfit.clauses) bounds.misfit.Symbol.routine
+misfit = equation (λ κs a l m. refl) (λ M. bounds.misfit.Met.met)
+
 pub both : LeavesOne bounds.both.ended (λ M. bounds.both.clauses) bounds.both.Symbol.routine
 both = equation (λ κs a l m. refl) (λ M. bounds.both.Met.met)
 

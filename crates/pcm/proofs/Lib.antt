@@ -1,4 +1,4 @@
--- Laws that the proofs of samples as bytes share.
+-- What the proofs here share, and the table of answers.
 pub mod Turns
 pub mod Calls
 pub mod Unique
