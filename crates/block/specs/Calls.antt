@@ -1,12 +1,10 @@
 -- Writing a block and reading one, with their refusals.
 -- Assumes nothing.
-use mathlib.Core.Path.{_≡_}
-use mathlib.Core.Bool.{Bool, true, cond, not, _&&_, and-eq-true-iff}
+use mathlib.Core.Bool.{Bool, true, cond, not, _&&_}
 use mathlib.Core.List.{List, [], _∷_}
-use Prim.Native.Nat.{ℕ, _+_, _-_, _≤_}
+use Prim.Native.Nat.{ℕ, _+_, _-_}
 use lib.Dec.{eqb, leb}
 use lib.ListN.{length, getD, take, drop}
-use borrow.Author.Tests.{leb-true}
 use Rattle.laws.specs.Outcome.{Outcome}
 use Rattle.g722.specs.declared.Moved.{Moved}
 use Rattle.block.specs.Check.{check}
@@ -52,12 +50,3 @@ readCall b =
     (cond (not (eqb (check (take 510 b)) (twoAt b 510))) (refused 7)
     (cond (not (wellFormed b)) (refused 8)
     (record { number = 0; index = 0; take = fourAt b 0; block = fourAt b 4; mode = getD b 8 0; count = twoAt b 10 })))
-
--- what is allowed has these bounds
-pub allowed-bounds : (mode count : ℕ) → allowed mode count ≡ true → (mode ≤ 3) × (count ≤ 480)
-unfolding allowed between
-allowed-bounds mode count e =
-    let h = and-eq-true-iff (between 1 3 mode) (between 1 480 count) .0 e in
-    let m = and-eq-true-iff (leb 1 mode) (leb mode 3) .0 (h .0) in
-    let c = and-eq-true-iff (leb 1 count) (leb count 480) .0 (h .1) in
-    (leb-true mode 3 (m .1), leb-true count 480 (c .1))

@@ -15,7 +15,8 @@ use Rattle.laws.specs.Order.{by-test}
 use Rattle.block.specs.Xor.{xor-twice}
 use Rattle.block.specs.Check.{byteStep, checkFrom, check}
 use Rattle.block.specs.Layout.{twoBytes, fourBytes, twoAt, body, blockOf}
-use Rattle.block.specs.Calls.{allowed, allowed-bounds, refused, readCall}
+use Rattle.block.specs.Calls.{allowed, refused, readCall}
+use Rattle.block.specs.Formed.{allowed-bounds}
 use Rattle.block.specs.Steps.{steps-same, byte-below}
 use Rattle.block.specs.Round.{block-length, check-right}
 
@@ -122,5 +123,5 @@ pub one-byte-changed : (take block mode : ℕ) (octets : List ℕ) → Bytes oct
     → readCall (set (blockOf take block mode octets) i v) ≡ refused 7
 one-byte-changed t n m o p h =
     let k = allowed-bounds m (length o) h in
-    refused-7 (blockOf t n m o) (block-length t n m o (k .1)) (written t n m o p (omega arith))
-    (check-right t n m o (k .1))
+    refused-7 (blockOf t n m o) (block-length t n m o (k .count-most)) (written t n m o p (omega arith))
+    (check-right t n m o (k .count-most))

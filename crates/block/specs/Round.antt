@@ -11,7 +11,8 @@ use lib.Pow.{shr-shr}
 use borrow.Author.Tests.{eq-eqb}
 use Rattle.block.specs.Check.{check}
 use Rattle.block.specs.Layout.{twoBytes, twoAt, fourAt, body, blockOf}
-use Rattle.block.specs.Calls.{allowed, allowed-bounds, allZero, wellFormed, readCall}
+use Rattle.block.specs.Calls.{allowed, allZero, wellFormed, readCall}
+use Rattle.block.specs.Formed.{allowed-bounds}
 use Rattle.block.specs.Steps.{check-below}
 
 -- a number from its bytes
@@ -81,7 +82,7 @@ module _ (t n m : ℕ) (o : List ℕ) where
 
   formed : allowed m (length o) ≡ true → wellFormed (blockOf t n m o) ≡ true
   unfolding wellFormed
-  formed h = rw (count-in (allowed-bounds m (length o) h .1), mode-in, h, zero-in, behind-zero)
+  formed h = rw (count-in (allowed-bounds m (length o) h .count-most), mode-in, h, zero-in, behind-zero)
 
   -- a block written with a mode of 1 to 3 and 1 to 480 octets is read with number 0, and with the take number, block number, mode and count that
   -- were written
@@ -89,7 +90,7 @@ module _ (t n m : ℕ) (o : List ℕ) where
       → (readCall (blockOf t n m o) ≡ record { number = 0; index = 0; take = t; block = n; mode = m; count = length o })
   unfolding readCall
   reads-back ht hn h =
-      let k = allowed-bounds m (length o) h .1 in
+      let k = allowed-bounds m (length o) h .count-most in
       rw (eq-eqb _ _ (block-length k), eq-eqb _ _ (check-right k), formed h) (cc (take-in ht, block-in hn, mode-in, count-in k))
 
   -- and its octets stand from byte 12 on

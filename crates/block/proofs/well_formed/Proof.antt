@@ -5,7 +5,8 @@ use native.Mathlib.Omega.{arith}
 use lib.ListN.{getD}
 use borrow.Author.Needs.{needs}
 use borrow.Author.Tests.{eq-eqb, ne-eqb, not-true, not-false}
-use Rattle.block.specs.Calls.{allowed, allowed-bounds, wellFormed}
+use Rattle.block.specs.Calls.{allowed, wellFormed}
+use Rattle.block.specs.Formed.{allowed-bounds}
 use Rattle.block.proofs.well_formed.Statement.{statement}
 use Rattle.block.proofs.well_formed.Tie as tie
 
@@ -27,7 +28,7 @@ returns-2 c =
 
 -- so the octets end before the check
 sub-all-zero : tie.Need-sub-all-zero
-sub-all-zero c = omega (arith, allowed-bounds _ _ (within (c .before .before)) .1)
+sub-all-zero c = omega (arith, allowed-bounds _ _ (within (c .before .before)) .count-most)
 
 returns-3 : tie.Need-returns-3
 unfolding wellFormed

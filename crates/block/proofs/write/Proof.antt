@@ -5,7 +5,8 @@ use native.Mathlib.Omega.{arith}
 use lib.ListN.{length}
 use borrow.Author.Needs.{needs}
 use borrow.Author.Tests.{eq-eqb, ne-eqb, not-true, not-false}
-use Rattle.block.specs.Calls.{allowed, allowed-bounds, notWritten, writeCall}
+use Rattle.block.specs.Calls.{allowed, notWritten, writeCall}
+use Rattle.block.specs.Formed.{allowed-bounds}
 use Rattle.block.proofs.write.Statement.{statement}
 use Rattle.block.proofs.write.Tie as tie
 
@@ -25,7 +26,7 @@ within : (c : tie.Else2) → let a = c .before .before .before .before .before .
 within c = sym (c .before .allowed .ensures) ∙ not-false _ (c .if2 .left)
 
 put-requires : tie.Need-put-requires
-put-requires c κs = (omega arith, allowed-bounds _ _ (within (c .before)) .1)
+put-requires c κs = (omega arith, allowed-bounds _ _ (within (c .before)) .count-most)
 
 returns-3 : tie.Need-returns-3
 unfolding writeCall
