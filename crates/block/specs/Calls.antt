@@ -18,16 +18,20 @@ between lo hi x = leb lo x && leb x hi
 unfoldable pub allowed : ℕ → ℕ → Bool
 allowed mode count = between 1 3 mode && between 1 480 count
 
+-- writing has no index to give
+abbrev pub numbered : ℕ → Moved
+numbered number = record { number = number; index = 0 }
+
 -- a refused write leaves the lent bytes as they came
 unfoldable pub notWritten : ℕ → List ℕ → Outcome Moved (List ℕ)
-notWritten number lent = record { answer = record { number = number; index = 0 }; left = lent }
+notWritten number lent = record { answer = numbered number; left = lent }
 
 -- writing: 6, then 8
 unfoldable pub writeCall : ℕ → ℕ → ℕ → List ℕ → List ℕ → Outcome Moved (List ℕ)
 writeCall take block mode octets lent =
     cond (not (eqb (length lent) 512)) (notWritten 6 lent)
     (cond (not (allowed mode (length octets))) (notWritten 8 lent)
-    (record { answer = record { number = 0; index = 0 }; left = blockOf take block mode octets }))
+    (record { answer = numbered 0; left = blockOf take block mode octets }))
 
 unfoldable pub allZero : List ℕ → Bool
 allZero [] = true
