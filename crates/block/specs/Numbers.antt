@@ -3,7 +3,7 @@
 use mathlib.Core.Path.{_≡_}
 use mathlib.Core.Bool.{true, false}
 use mathlib.Core.List.{List}
-use Prim.Native.Nat.{ℕ}
+use Prim.Native.Nat.{ℕ, _≤_}
 use native.Mathlib.Omega.{arith}
 use lib.Dec.{eqb}
 use lib.ListN.{length, getD, take}
@@ -75,6 +75,16 @@ module _ (b : List ℕ) where
       (λ f. by-test (wellFormed b) (λ g. absurd (h (rw (e, f, g)))) (λ g. rw (e, f, g)))
       (λ f. rw (e, f)))
       (λ e. rw e)
+
+  -- no other number is given
+  pub read-most : readCall b .number ≤ 8
+  unfolding readCall
+  read-most =
+      by-test (eqb (length b) 512)
+      (λ e. by-test (eqb (check (take 510 b)) (twoAt b 510))
+      (λ f. by-test (wellFormed b) (λ g. rw (e, f, g) (omega arith)) (λ g. rw (e, f, g) (omega arith)))
+      (λ f. rw (e, f) (omega arith)))
+      (λ e. rw e (omega arith))
 
 -- what a block that reads well is
 pub record Sound (b : List ℕ) : Type 0 where

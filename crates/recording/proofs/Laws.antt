@@ -22,26 +22,7 @@ use Rattle.recording.specs.Walk.{ended, stood, stepAt}
 use Rattle.recording.specs.Play.{notPlayed, reported, playedFrom, playCall}
 use Rattle.recording.specs.declared.Played.{Played}
 
--- ---- block number `at` of a recording
-
-module _ (s : List ℕ) (at : ℕ) where
-  pub step-end : length s ≤ 512 * at → stepAt s at ≡ ended at
-  unfolding stepAt
-  step-end h = rw (le-leb (length s) (512 * at) h)
-
-  pub step-short : 512 * at < length s → length s < 512 * at + 512 → stepAt s at ≡ stood (refused 6) at
-  unfolding stepAt
-  step-short h k = rw (lt-leb (length s) (512 * at) h, lt-ltb (length s) (512 * at + 512) k)
-
-  pub step-whole : 512 * at + 512 ≤ length s → stepAt s at ≡ stood (readCall (take 512 (drop (512 * at) s))) at
-  unfolding stepAt
-  step-whole h = rw (lt-leb (length s) (512 * at) (omega arith), le-ltb (length s) (512 * at + 512) h)
-
--- ---- a block that is not 512 bytes, and the bounds of one that reads well
-
-pub read-short : (b : List ℕ) → (length b ≡ 512 → ⊥) → readCall b ≡ refused 6
-unfolding readCall
-read-short b h = rw (ne-eqb (length b) 512 h)
+-- ---- the bounds of a block that reads well
 
 pub record Bounds (b : List ℕ) (r : BlockRead) : Type 0 where
   pub size : length b ≡ 512

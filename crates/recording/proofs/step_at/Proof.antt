@@ -6,7 +6,7 @@ use lib.ListN.{take, drop, length-take, length-drop}
 use Rattle.block.specs.Calls.{readCall}
 use Rattle.block.specs.declared.BlockRead.{BlockRead}
 use Rattle.recording.specs.Walk.{stood}
-use Rattle.recording.proofs.Laws.{step-end, step-short, step-whole, read-short}
+use Rattle.recording.specs.Stays.{step-end, step-short, step-whole, read-short}
 use borrow.Author.Needs.{needs}
 use Rattle.recording.proofs.step_at.Statement.{statement}
 use Rattle.recording.proofs.step_at.Tie as tie
