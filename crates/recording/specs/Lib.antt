@@ -2,3 +2,4 @@
 pub mod Walk
 pub mod Stays
 pub mod Play
+pub mod Played

@@ -7,7 +7,8 @@ use lib.ListN.{length, drop}
 use lib.Seq.{length-take-le}
 use Rattle.laws.specs.Back.{back16}
 use Rattle.laws.specs.Outcome.{does}
-use Rattle.recording.proofs.Laws.{Bounds, bounds, play-unread, play-narrow, said-refused, said-done, played}
+use Rattle.recording.specs.Played.{Bounds, play-unread, play-narrow}
+use Rattle.recording.proofs.Laws.{bounds, said-refused, said-done, played}
 use borrow.Author.Needs.{needs}
 use Rattle.recording.proofs.play.Statement.{statement}
 use Rattle.recording.proofs.play.Tie as tie
@@ -32,7 +33,7 @@ long : (c : tie.After-samples)
 long c = omega (arith, roomy (c .before .before .before .before), c .samples .given)
 
 mul-size : tie.Need-mul-size
-mul-size c = omega (arith, within c .most)
+mul-size c = omega (arith, within c .says .count-most)
 
 returns-2 : tie.Need-returns-2
 returns-2 c =
@@ -40,7 +41,7 @@ returns-2 c =
     does (play-narrow _ _ _ _ (e .before .before .read .ensures) (e .if1 .left) (omega arith)) (c .not-played2 .ensures) refl
 
 part-decode-end : tie.Need-part-decode-end
-part-decode-end c = omega (arith, within (c .before) .most, within (c .before) .size)
+part-decode-end c = omega (arith, within (c .before) .says .count-most, within (c .before) .size)
 
 slice-aggregate-decode : tie.Need-slice-aggregate-decode
 slice-aggregate-decode c = sym (length-take-le _ _ (omega arith))
@@ -54,18 +55,18 @@ returns-3 c =
 slice-copy-out-first : tie.Need-slice-copy-out-first
 slice-copy-out-first c =
     let t = c .before .before .before in
-    omega (arith, within (t .before .before .before .before .before) .some, long t)
+    omega (arith, within (t .before .before .before .before .before) .says .count-least, long t)
 
 sub-last : tie.Need-sub-last
-sub-last c = omega (arith, within (c .before .before .before .before .before .before .before .before .before) .some)
+sub-last c = omega (arith, within (c .before .before .before .before .before .before .before .before .before) .says .count-least)
 
 mul-last : tie.Need-mul-last
-mul-last c = omega (arith, within (c .before .before .before .before .before .before .before .before .before) .most)
+mul-last c = omega (arith, within (c .before .before .before .before .before .before .before .before .before) .says .count-most)
 
 slice-copy-out-last : tie.Need-slice-copy-out-last
 slice-copy-out-last c =
     let t = c .before .before .before .before in
-    omega (arith, within (t .before .before .before .before .before) .some, long t)
+    omega (arith, within (t .before .before .before .before .before) .says .count-least, long t)
 
 returns-4 : tie.Need-returns-4
 returns-4 c =
