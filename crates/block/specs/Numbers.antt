@@ -1,7 +1,7 @@
 -- Which number is given when, in the order of SCOPE: writing 6, 8; reading 6, 7, 8. And a refusal changes nothing.
 -- Assumes nothing.
 use mathlib.Core.Path.{_≡_}
-use mathlib.Core.Bool.{true, false}
+use mathlib.Core.Bool.{false}
 use mathlib.Core.List.{List}
 use Prim.Native.Nat.{ℕ, _≤_}
 use native.Mathlib.Omega.{arith}

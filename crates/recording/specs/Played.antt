@@ -1,9 +1,9 @@
 -- A block played, for every input: which number is given when, that a refusal changes nothing, and what is heard.
 -- Assumes nothing.
-use mathlib.Core.Path.{_≡_, refl, sym, ap, _∙_}
+use mathlib.Core.Path.{_≡_, refl, _∙_}
 use mathlib.Core.Bool.{true, false}
 use mathlib.Core.List.{List, _++_}
-use Prim.Native.Nat.{ℕ, _+_, _-_, _*_, _≤_, _<_}
+use Prim.Native.Nat.{ℕ, _-_, _*_, _≤_, _<_}
 use native.Mathlib.Omega.{arith}
 use lib.Dec.{eqb, ltb}
 use lib.IntN.{ℤ, pos}
@@ -11,19 +11,16 @@ use lib.ListN.{length, getD, take, drop, length-drop, take-append-drop}
 use lib.Seq.{length-take-le}
 use borrow.Author.Tests.{lt-ltb, le-ltb, ltb-true, ltb-false, eq-eqb, ne-eqb, eqb-true, eqb-false}
 use Rattle.laws.specs.Order.{by-test}
-use Rattle.laws.specs.Outcome.{Outcome}
 use Rattle.g722.specs.Quantise.{inForce}
 use Rattle.g722.specs.Records.{goodDecoder}
 use Rattle.g722.specs.Coding.{misfit}
 use Rattle.g722.specs.Decoding.{samplesOf, decoderAfter, notDecoded, decoded, decodeCall}
 use Rattle.g722.specs.declared.Decoder.{Decoder}
-use Rattle.g722.specs.declared.Decoded.{Decoded}
 use Rattle.block.specs.Calls.{readCall}
 use Rattle.block.specs.Formed.{Allowed}
 use Rattle.block.specs.Numbers.{read-sound, read-done}
 use Rattle.block.specs.declared.BlockRead.{BlockRead}
 use Rattle.recording.specs.Play.{notPlayed, reported, playedFrom, playCall}
-use Rattle.recording.specs.declared.Played.{Played}
 
 -- the bounds of a block that reads well
 pub record Bounds (b : List ℕ) (r : BlockRead) : Type 0 where

@@ -1,4 +1,5 @@
 -- `lines::refused_line` meets its contract.
+use Rattle.lines.specs.Text.{ascii}
 use Rattle.lines.specs.Lines.{refusedLine}
 use Rattle.lines.proofs.Laws.{both, finished}
 use borrow.Author.Needs.{needs}
@@ -6,7 +7,7 @@ use Rattle.lines.proofs.refused_line.Statement.{statement}
 use Rattle.lines.proofs.refused_line.Tie as tie
 
 returns : tie.Need-returns
-unfolding refusedLine
+unfolding refusedLine ascii
 returns c =
     let f2 = c .before .before in
     let f1 = f2 .before in
