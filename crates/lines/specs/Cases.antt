@@ -1,7 +1,6 @@
 -- Lines as they are read, each field with a number of its own: fields that change places change the line.
 -- Assumes nothing.
 use mathlib.Core.Path.{_≡_, refl}
-use mathlib.Core.List.{[], _∷_, _++_}
 use lib.IntN.{pos, negsuc}
 use Rattle.lines.specs.Decimal.{spelled, decimal, signed}
 use Rattle.lines.specs.Text.{ascii}

@@ -1,9 +1,8 @@
 -- Sums 14 and 15, and no input: of the whole listing.
 -- Assumes nothing.
 use mathlib.Core.Path.{_≡_, refl}
-use mathlib.Core.List.{List, [], _∷_, zipWith}
+use mathlib.Core.List.{List, [], _∷_, _++_, zipWith}
 use Prim.Native.Nat.{ℕ}
-use lib.IntN.{pos}
 use lib.ListN.{replicate}
 use Rattle.laws.specs.Clamp.{clamp}
 use Rattle.g722.specs.Arithmetic.{add, sub, mul, limit, sameSign, within, equal}
@@ -18,12 +17,13 @@ use Rattle.g722.specs.Decoding.{rlOf, rhOf, rlRow, rhRow, firstOf, secondOf, de
 use Rattle.block.specs.Check.{bitStep, bitSteps, byteStep, checkFrom, check}
 use Rattle.block.specs.Layout.{body, blockOf}
 use Rattle.block.specs.Calls.{between, allowed, allZero, wellFormed, readCall}
+use Rattle.recording.specs.Run.{onward}
 use Rattle.recording.specs.Play.{reported, playedFrom, playCall}
 use Rattle.lines.specs.Decimal.{spelled, decimal, signed}
 use Rattle.lines.specs.Lines.{blockLine, refusedLine}
 use Rattle.lines.specs.Text.{ascii}
 use Rattle.listing.specs.Listed.{listed}
-use Rattle.listing.specs.Listing.{cut, pieces, start, onward, linesFrom, listing}
+use Rattle.listing.specs.Listing.{cut, pieces, start, linesFrom, listing}
 
 -- no input, no lines
 pub nothing : listing [] ≡ []
@@ -43,11 +43,12 @@ short = refl
 abbrev one : List ℕ
 one = blockOf 7 0 1 (0xFA ∷ [])
 
--- what a block and its line unfold to
-pub one-octet : listing one ≡ ascii "7 0 1 1 0 -1\n" ∷ []
+-- by itself; and before a block that is refused, after which nothing is listed
+pub one-octet : (listing one ≡ ascii "7 0 1 1 0 -1\n" ∷ [])
+    × (listing (one ++ (replicate 512 0 ++ one)) ≡ ascii "7 0 1 1 0 -1\n" ∷ ascii "refused 7 1\n" ∷ [])
 unfolding listing pieces cut linesFrom start onward listed playCall readCall check checkFrom byteStep bitSteps bitStep blockOf body
-    wellFormed allowed between allZero playedFrom reported blockLine decimal spelled signed ascii decodeCall misfit goodDecoder goodLow goodHigh
+    wellFormed allowed between allZero playedFrom reported blockLine refusedLine decimal spelled signed ascii decodeCall misfit goodDecoder goodLow goodHigh
     goodPoles goodFactors inRange allInRange resetDecoder resetBand decoded notDecoded samplesOf decoderAfter decoderStep firstOf secondOf rlOf rhOf
     rlRow rhRow accumc accumd xd xs sum coefficient h limit clamp add sub mul sameSign within equal inForce invqbl invqal invqah inverse fromFour
     fromFive fromSix fromTwo qq4 qq5 qq6 qq2 recons predic filtez filtep term sums scalel scaleh scaleAt ila zipWith
-one-octet = refl
+one-octet = (refl, refl)

@@ -10,7 +10,8 @@ use borrow.Author.Tests.{eq-eqb, ne-eqb, ltb-true, ltb-false}
 use Rattle.laws.specs.Order.{by-test}
 use Rattle.lines.specs.Lines.{blockLine, refusedLine}
 use Rattle.listing.specs.Listed.{listed}
-use Rattle.listing.specs.Listing.{cut, pieces, Player, start, played, onward, linesFrom, listing}
+use Rattle.recording.specs.Run.{Player, played, onward}
+use Rattle.listing.specs.Listing.{cut, pieces, start, linesFrom, listing}
 
 -- ---- the pieces: none of nothing, else 512 bytes, or as many as there are, and then the pieces of the rest
 
@@ -49,28 +50,30 @@ pieces-some bytes h =
 
 -- ---- the lines of what is left of a recording
 
-abbrev pub listingFrom : Player → List ℕ → List (List ℕ)
-listingFrom p bytes = linesFrom p (pieces bytes)
+abbrev pub listingFrom : Player → ℕ → List ℕ → List (List ℕ)
+listingFrom p before bytes = linesFrom p before (pieces bytes)
 
-pub whole-listing : (bytes : List ℕ) → listing bytes ≡ listingFrom start bytes
+pub whole-listing : (bytes : List ℕ) → listing bytes ≡ listingFrom start 0 bytes
 unfolding listing
 whole-listing bytes = refl
 
--- no input, no lines
-pub no-lines : (p : Player) → listingFrom p [] ≡ []
-unfolding linesFrom
-no-lines p = ap (linesFrom p) pieces-none
+module _ (p : Player) (before : ℕ) where
+  -- no input, no lines
+  pub no-lines : listingFrom p before [] ≡ []
+  unfolding linesFrom
+  no-lines = ap (linesFrom p before) pieces-none
 
-module _ (p : Player) (bytes : List ℕ) (some : 0 < length bytes) where
-  -- a block: its line, and then the listing of the rest, from what the player keeps
-  pub good-line : let a = played p (take 512 bytes) .answer in a .number ≡ 0
-      → listingFrom p bytes
-      ≡ blockLine (a .take) (a .block) (a .mode) (a .count) (a .first) (a .last) ∷ listingFrom (onward p (take 512 bytes)) (drop 512 bytes)
-  unfolding linesFrom listed
-  good-line z = rw (pieces-some bytes some, eq-eqb (played p (take 512 bytes) .answer .number) 0 z)
+  module _ (bytes : List ℕ) (some : 0 < length bytes) where
+    -- a block: its line, and then the listing of the rest, from what the player keeps
+    pub good-line : let a = played p (take 512 bytes) .answer in a .number ≡ 0
+        → listingFrom p before bytes
+        ≡ blockLine (a .take) (a .block) (a .mode) (a .count) (a .first) (a .last)
+        ∷ listingFrom (onward p (take 512 bytes)) (before + 1) (drop 512 bytes)
+    unfolding linesFrom listed
+    good-line z = rw (pieces-some bytes some, eq-eqb (played p (take 512 bytes) .answer .number) 0 z)
 
-  -- a refusal: its line, with the count of the blocks before it, and nothing more
-  pub refused-line : let a = played p (take 512 bytes) .answer in (a .number ≡ 0 → ⊥)
-      → listingFrom p bytes ≡ refusedLine (a .number) (p .before) ∷ []
-  unfolding linesFrom listed
-  refused-line n = rw (pieces-some bytes some, ne-eqb (played p (take 512 bytes) .answer .number) 0 n)
+    -- a refusal: its line, with the count of the blocks before it, and nothing more
+    pub refused-line : let a = played p (take 512 bytes) .answer in (a .number ≡ 0 → ⊥)
+        → listingFrom p before bytes ≡ refusedLine (a .number) before ∷ []
+    unfolding linesFrom listed
+    refused-line n = rw (pieces-some bytes some, ne-eqb (played p (take 512 bytes) .answer .number) 0 n)

@@ -36,6 +36,12 @@ read-bounds b z =
 abbrev pub octetsIn : List ℕ → List ℕ
 octetsIn b = take (readCall b .count) (drop 12 b)
 
+pub octets-length : (b : List ℕ) → readCall b .number ≡ 0 → length (octetsIn b) ≡ readCall b .count
+octets-length b z =
+    let p = read-bounds b z in
+    let most = p .says .count-most in
+    length-take-le (readCall b .count) (drop 12 b) (rw (length-drop, p .size) (omega arith))
+
 -- ---- case by case, from what the block reads as
 
 module _ (d : Decoder) (b : List ℕ) (samples : List ℤ) (r : BlockRead) (e : r ≡ readCall b) where
@@ -72,9 +78,8 @@ module _ (d : Decoder) (b : List ℕ) (samples : List ℤ) (h : readCall b .numb
   fits : misfit (length front) (length (octetsIn b)) ≡ false
   unfolding misfit
   fits =
-      let p = read-bounds b h in
-      let most = p .says .count-most in
-      let n : length (octetsIn b) ≡ readCall b .count = length-take-le (readCall b .count) (drop 12 b) (rw (length-drop, p .size) (omega arith)) in
+      let most = read-bounds b h .says .count-most in
+      let n = octets-length b h in
       let m : length front ≡ 2 * readCall b .count = length-take-le (2 * readCall b .count) samples k in
       rw (n, m, le-ltb 8000 (readCall b .count) (omega arith), eq-eqb (2 * readCall b .count) (2 * readCall b .count) refl)
 
