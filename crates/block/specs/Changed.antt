@@ -10,13 +10,14 @@ use lib.Bits.{bitXor, xor-lt, xor-comm}
 use lib.Dec.{ltb, eqb, lit<, lit≤}
 use lib.ListN.{length, getD, take, set, replicate, length-set}
 use lib.Seq.{length-take-le, take-set-lt, take-set-le, getD-take, getD-set-same, getD-set-other}
-use borrow.Author.Tests.{ltb-true, ltb-false, eqb-true, eqb-false, eq-eqb, ne-eqb}
+use borrow.Author.Tests.{ltb-true, ltb-false, eqb-true, eqb-false}
 use Rattle.laws.specs.Order.{by-test}
 use Rattle.block.specs.Xor.{xor-twice}
 use Rattle.block.specs.Check.{byteStep, checkFrom, check}
 use Rattle.block.specs.Layout.{twoBytes, fourBytes, twoAt, body, blockOf}
 use Rattle.block.specs.Calls.{allowed, refused, readCall}
 use Rattle.block.specs.Formed.{allowed-bounds}
+use Rattle.block.specs.Numbers.{read-7}
 use Rattle.block.specs.Steps.{steps-same, byte-below}
 use Rattle.block.specs.Round.{block-length, check-right}
 
@@ -113,9 +114,7 @@ module _ (b : List ℕ) (n : length b ≡ 512) (bytes : Bytes b) (right : check 
       (λ g. let k = eqb-false i 510 g in let z : i ≡ 511 = omega arith in rw z (in-low v)))
 
   refused-7 : (i v : ℕ) → i < 512 → v < 256 → (v ≡ getD b i 0 → ⊥) → readCall (set b i v) ≡ refused 7
-  unfolding readCall
-  refused-7 i v hi hv d =
-      rw (eq-eqb _ _ (length-set b i v ∙ n), ne-eqb (check (take 510 (set b i v))) (twoAt (set b i v) 510) (λ e. d (seen i v hi hv e)))
+  refused-7 i v hi hv d = read-7 (set b i v) (length-set b i v ∙ n) (λ e. d (seen i v hi hv e))
 
 -- one byte of a written block, the check's two among them, is put to any other value: the block is refused with 7
 pub one-byte-changed : (take block mode : ℕ) (octets : List ℕ) → Bytes octets → allowed mode (length octets) ≡ true

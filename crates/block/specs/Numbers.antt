@@ -11,20 +11,21 @@ use borrow.Author.Tests.{eq-eqb, ne-eqb, eqb-true}
 use Rattle.laws.specs.Order.{by-test}
 use Rattle.block.specs.Check.{check}
 use Rattle.block.specs.Layout.{twoAt, fourAt, blockOf}
-use Rattle.block.specs.Calls.{allowed, notWritten, writeCall, wellFormed, readCall}
+use Rattle.block.specs.Calls.{allowed, notWritten, writeCall, wellFormed, refused, readCall}
 use Rattle.block.specs.Formed.{Allowed, allowed-bounds, allowed-within, Formed, formed-bytes, formed-within}
 
 -- ---- writing take number t, block number n, mode m, octets o
 
 module _ (t n m : ℕ) (o lent : List ℕ) where
-  pub write-6 : (length lent ≡ 512 → ⊥) → writeCall t n m o lent .answer .number ≡ 6
+  pub write-6 : (length lent ≡ 512 → ⊥) → writeCall t n m o lent ≡ record { answer = record { number = 6; index = 0 }; left = lent }
   unfolding writeCall notWritten
   write-6 h = rw (ne-eqb (length lent) 512 h)
 
   disallowed : (Allowed m (length o) → ⊥) → allowed m (length o) ≡ false
   disallowed h = by-test (allowed m (length o)) (λ e. absurd (h (allowed-bounds m (length o) e))) (λ e. e)
 
-  pub write-8 : length lent ≡ 512 → (Allowed m (length o) → ⊥) → writeCall t n m o lent .answer .number ≡ 8
+  pub write-8 : length lent ≡ 512 → (Allowed m (length o) → ⊥)
+      → writeCall t n m o lent ≡ record { answer = record { number = 8; index = 0 }; left = lent }
   unfolding writeCall notWritten
   write-8 l h = rw (eq-eqb (length lent) 512 l, disallowed h)
 
@@ -45,18 +46,18 @@ module _ (t n m : ℕ) (o lent : List ℕ) where
 -- ---- reading
 
 module _ (b : List ℕ) where
-  pub read-6 : (length b ≡ 512 → ⊥) → readCall b .number ≡ 6
+  pub read-6 : (length b ≡ 512 → ⊥) → readCall b ≡ refused 6
   unfolding readCall
   read-6 h = rw (ne-eqb (length b) 512 h)
 
-  pub read-7 : length b ≡ 512 → (check (take 510 b) ≡ twoAt b 510 → ⊥) → readCall b .number ≡ 7
+  pub read-7 : length b ≡ 512 → (check (take 510 b) ≡ twoAt b 510 → ⊥) → readCall b ≡ refused 7
   unfolding readCall
   read-7 l h = rw (eq-eqb (length b) 512 l, ne-eqb (check (take 510 b)) (twoAt b 510) h)
 
   malformed : length b ≡ 512 → (Formed b → ⊥) → wellFormed b ≡ false
   malformed l h = by-test (wellFormed b) (λ e. absurd (h (formed-bytes b l e))) (λ e. e)
 
-  pub read-8 : length b ≡ 512 → check (take 510 b) ≡ twoAt b 510 → (Formed b → ⊥) → readCall b .number ≡ 8
+  pub read-8 : length b ≡ 512 → check (take 510 b) ≡ twoAt b 510 → (Formed b → ⊥) → readCall b ≡ refused 8
   unfolding readCall
   read-8 l c h = rw (eq-eqb (length b) 512 l, eq-eqb (check (take 510 b)) (twoAt b 510) c, malformed l h)
 

@@ -10,16 +10,10 @@ use lib.ListN.{length, take, drop, length-take, length-drop}
 use borrow.Author.Tests.{eq-eqb, ne-eqb, leb-true, leb-false, le-leb, lt-leb, ltb-true, ltb-false, lt-ltb, le-ltb}
 use Rattle.laws.specs.Order.{by-test}
 use Rattle.block.specs.Calls.{refused, readCall}
-use Rattle.block.specs.Numbers.{read-6, read-refused, read-most}
+use Rattle.block.specs.Numbers.{read-6, read-most}
 use Rattle.block.specs.declared.BlockRead.{BlockRead}
 use Rattle.recording.specs.declared.Step.{Step}
 use Rattle.recording.specs.Walk.{ended, stood, stepAt, nextAt}
-
--- a piece that is not 512 bytes is refusal 6
-pub read-short : (b : List ℕ) → (length b ≡ 512 → ⊥) → readCall b ≡ refused 6
-read-short b h =
-    let six = read-6 b h in
-    read-refused b (λ z. omega arith) ∙ ap refused six
 
 -- the 512 bytes of block number `at`, or as many as are left
 abbrev pub pieceAt : List ℕ → ℕ → List ℕ
@@ -43,7 +37,7 @@ module _ (s : List ℕ) (at : ℕ) where
   step-block h =
       by-test (ltb (length s) (512 * at + 512))
       (λ f. let k = ltb-true (length s) (512 * at + 512) f in
-      step-short h k ∙ ap (λ (b : BlockRead). stood b at) (sym (read-short (pieceAt s at) (λ e. omega (arith, simp (length-take, length-drop) at e)))))
+      step-short h k ∙ ap (λ (b : BlockRead). stood b at) (sym (read-6 (pieceAt s at) (λ e. omega (arith, simp (length-take, length-drop) at e)))))
       (λ f. step-whole (ltb-false (length s) (512 * at + 512) f))
 
   -- the end is where nothing is left, and the walk stays there
