@@ -4,3 +4,4 @@ pub mod Stays
 pub mod Play
 pub mod Played
 pub mod Run
+pub mod Enough

@@ -83,7 +83,7 @@ unfolding decoderRun marked decoderAfter
 decoder-join mode d [] rest = refl
 decoder-join mode d (o ∷ os) rest = decoder-join mode (decoderStep mode d o) os rest
 
-samples-length : (mode : ℕ) (d : Decoder) (os : List ℕ) → length (samplesOf mode d os) ≡ 2 * length os
+pub samples-length : (mode : ℕ) (d : Decoder) (os : List ℕ) → length (samplesOf mode d os) ≡ 2 * length os
 unfolding samplesOf
 samples-length mode d [] = refl
 samples-length mode d (o ∷ os) = let l = samples-length mode (decoderStep mode d o) os in omega arith
