@@ -98,12 +98,20 @@ module _ (b : List ℕ) (n : length b ≡ 512) (bytes : Bytes b) (right : check 
 
   in-high : (v : ℕ) → check (take 510 (set b 510 v)) ≡ twoAt (set b 510 v) 510 → v ≡ getD b 510 0
   in-high v e =
-      let f = rw (take-set-le 510 b 510 v (lit≤ tt), getD-set-same b 510 v 0 (omega arith), getD-set-other b 510 511 v 0 (λ q. omega arith)) at e in
+      let f = rw (
+        take-set-le 510 b 510 v (lit≤ tt),
+        getD-set-same b 510 v 0 (omega arith),
+        getD-set-other b 510 511 v 0 (λ q. omega arith),
+      ) at e in
       omega arith
 
   in-low : (v : ℕ) → check (take 510 (set b 511 v)) ≡ twoAt (set b 511 v) 510 → v ≡ getD b 511 0
   in-low v e =
-      let f = rw (take-set-le 510 b 511 v (lit≤ tt), getD-set-same b 511 v 0 (omega arith), getD-set-other b 511 510 v 0 (λ q. omega arith)) at e in
+      let f = rw (
+        take-set-le 510 b 511 v (lit≤ tt),
+        getD-set-same b 511 v 0 (omega arith),
+        getD-set-other b 511 510 v 0 (λ q. omega arith),
+      ) at e in
       omega arith
 
   seen : (i v : ℕ) → i < 512 → v < 256 → check (take 510 (set b i v)) ≡ twoAt (set b i v) 510 → v ≡ getD b i 0

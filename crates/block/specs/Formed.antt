@@ -1,4 +1,5 @@
--- What refusal 8 is given for, in plain orders and equations: the modes are 1, 2 and 3, the counts 1 to 480, and the bytes that must be zero are.
+-- What refusal 8 is given for, in plain orders and equations:
+-- the modes are 1, 2 and 3, the counts 1 to 480, and the bytes that must be zero are.
 -- Assumes nothing.
 use mathlib.Core.Path.{_≡_, refl, sym, ap, _∙_}
 use mathlib.Core.Bool.{true, _&&_, and-eq-true-iff}
@@ -92,5 +93,6 @@ module _ (b : List ℕ) (size : length b ≡ 512) where
   formed-within f =
       let end = 12 + twoAt b 10 in
       let n = rest-length (f .says .count-most) in
-      let zeros = zero-all rest (λ j h. let l : j < 510 - end = omega arith in rest-at j l ∙ f .behind (end + j) (omega arith) (omega arith)) in
+      let zeros = zero-all rest
+      (λ j h. let l : j < 510 - end = omega arith in rest-at j l ∙ f .behind (end + j) (omega arith) (omega arith)) in
       rw (allowed-within (getD b 8 0) (twoAt b 10) (f .says), eq-eqb (getD b 9 0) 0 (f .nine), zeros)

@@ -12,7 +12,8 @@ use Rattle.lines.specs.declared.Line.{Line}
 -- "take block mode count first last", single spaces between them and a line feed behind them
 unfoldable pub blockLine : ℕ → ℕ → ℕ → ℕ → ℤ → ℤ → List ℕ
 blockLine take block mode count first last =
-    decimal take ++ (32 ∷ decimal block ++ (32 ∷ decimal mode ++ (32 ∷ decimal count ++ (32 ∷ signed first ++ (32 ∷ signed last ++ (10 ∷ []))))))
+    decimal take ++ (32 ∷ decimal block ++ (32 ∷ decimal mode ++ (32 ∷ decimal count
+    ++ (32 ∷ signed first ++ (32 ∷ signed last ++ (10 ∷ []))))))
 
 -- "refused number blocks", alike
 unfoldable pub refusedLine : ℕ → ℕ → List ℕ

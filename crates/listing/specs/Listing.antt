@@ -47,6 +47,7 @@ listing bytes = linesFrom start 0 (pieces bytes)
 
 -- the samples of the whole listing are those of one run from reset, and so is the last record
 pub one-run : (blocks : List (List ℕ)) → AllPlayed start blocks
-    → (heard start blocks ≡ samplesRun resetDecoder (allTold blocks)) × (after start blocks .decoder ≡ decoderRun resetDecoder (allTold blocks))
+    → (heard start blocks ≡ samplesRun resetDecoder (allTold blocks)) ×
+    (after start blocks .decoder ≡ decoderRun resetDecoder (allTold blocks))
 unfolding start
 one-run blocks a = (samples-one-run start blocks a, decoder-one-run start blocks a)

@@ -13,7 +13,20 @@ use Rattle.g722.specs.Band.{term, sums, filtez, filtep, predic, recons}
 use Rattle.g722.specs.Mirror.{sum, coefficient, xd, xs, accumc, accumd}
 use Rattle.g722.specs.Records.{inRange, allInRange, goodPoles, goodFactors, goodLow, goodHigh, goodDecoder, resetBand, resetDecoder}
 use Rattle.g722.specs.Coding.{misfit}
-use Rattle.g722.specs.Decoding.{rlOf, rhOf, rlRow, rhRow, firstOf, secondOf, decoderStep, samplesOf, decoderAfter, notDecoded, decoded, decodeCall}
+use Rattle.g722.specs.Decoding.{
+  rlOf,
+  rhOf,
+  rlRow,
+  rhRow,
+  firstOf,
+  secondOf,
+  decoderStep,
+  samplesOf,
+  decoderAfter,
+  notDecoded,
+  decoded,
+  decodeCall,
+}
 use Rattle.block.specs.Check.{bitStep, bitSteps, byteStep, checkFrom, check}
 use Rattle.block.specs.Layout.{body, blockOf}
 use Rattle.block.specs.Calls.{between, allowed, allZero, wellFormed, readCall}
@@ -32,7 +45,8 @@ nothing = refl
 
 -- 14. 512 zero bytes, and 511
 pub zeros : listing (replicate 512 0) ≡ ascii "refused 7 0\n" ∷ []
-unfolding listing pieces cut linesFrom start listed playCall readCall check checkFrom byteStep bitSteps bitStep refusedLine decimal spelled ascii
+unfolding listing pieces cut linesFrom start listed playCall readCall check checkFrom byteStep bitSteps bitStep refusedLine decimal
+    spelled ascii
 zeros = refl
 
 pub short : listing (replicate 511 0) ≡ ascii "refused 6 0\n" ∷ []
@@ -47,8 +61,9 @@ one = blockOf 7 0 1 (0xFA ∷ [])
 pub one-octet : (listing one ≡ ascii "7 0 1 1 0 -1\n" ∷ [])
     × (listing (one ++ (replicate 512 0 ++ one)) ≡ ascii "7 0 1 1 0 -1\n" ∷ ascii "refused 7 1\n" ∷ [])
 unfolding listing pieces cut linesFrom start onward listed playCall readCall check checkFrom byteStep bitSteps bitStep blockOf body
-    wellFormed allowed between allZero playedFrom reported blockLine refusedLine decimal spelled signed ascii decodeCall misfit goodDecoder goodLow goodHigh
-    goodPoles goodFactors inRange allInRange resetDecoder resetBand decoded notDecoded samplesOf decoderAfter decoderStep firstOf secondOf rlOf rhOf
-    rlRow rhRow accumc accumd xd xs sum coefficient h limit clamp add sub mul sameSign within equal inForce invqbl invqal invqah inverse fromFour
-    fromFive fromSix fromTwo qq4 qq5 qq6 qq2 recons predic filtez filtep term sums scalel scaleh scaleAt ila zipWith
+    wellFormed allowed between allZero playedFrom reported blockLine refusedLine decimal spelled signed ascii decodeCall misfit
+    goodDecoder goodLow goodHigh goodPoles goodFactors inRange allInRange resetDecoder resetBand decoded notDecoded samplesOf
+    decoderAfter decoderStep firstOf secondOf rlOf rhOf rlRow rhRow accumc accumd xd xs sum coefficient h limit clamp add sub mul
+    sameSign within equal inForce invqbl invqal invqah inverse fromFour fromFive fromSix fromTwo qq4 qq5 qq6 qq2 recons predic filtez
+    filtep term sums scalel scaleh scaleAt ila zipWith
 one-octet = (refl, refl)

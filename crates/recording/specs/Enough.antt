@@ -54,7 +54,8 @@ module _ (stays : (mode : ℕ) (d : Decoder) (o : ℕ) → goodDecoder d ≡ tru
         let k = length-drop (2 * readCall piece .count) (p .samples) in
         let same = ap (λ (x : Outcome Played (List ℤ)). length (x .left)) done in
         record {
-          sound = ap (λ (x : Outcome Played (List ℤ)). goodDecoder (x .answer .next)) done ∙ after-good mode (p .decoder) (octetsIn piece) (r .sound);
+          sound = ap (λ (x : Outcome Played (List ℤ)). goodDecoder (x .answer .next)) done
+              ∙ after-good mode (p .decoder) (octetsIn piece) (r .sound);
           room = omega (arith, fits, r .room);
         }
 

@@ -1,4 +1,5 @@
--- What the walk answers where: the end, as often as asked and told by the number alone; 6 for a short last piece; a refusal again and again.
+-- What the walk answers where: the end, as often as asked and told by the number alone; 6 for a short last piece; a refusal again and
+-- again.
 -- Assumes nothing.
 use mathlib.Core.Path.{_≡_, sym, ap, _∙_}
 use mathlib.Core.Bool.{true, false}
@@ -37,7 +38,8 @@ module _ (s : List ℕ) (at : ℕ) where
   step-block h =
       by-test (ltb (length s) (512 * at + 512))
       (λ f. let k = ltb-true (length s) (512 * at + 512) f in
-      step-short h k ∙ ap (λ (b : BlockRead). stood b at) (sym (read-6 (pieceAt s at) (λ e. omega (arith, simp (length-take, length-drop) at e)))))
+      step-short h k ∙ ap (λ (b : BlockRead). stood b at) (sym
+      (read-6 (pieceAt s at) (λ e. omega (arith, simp (length-take, length-drop) at e)))))
       (λ f. step-whole (ltb-false (length s) (512 * at + 512) f))
 
   -- the end is where nothing is left, and the walk stays there

@@ -135,7 +135,8 @@ fn not_played(number: u8, d: Decoder) -> Played
     }
 }
 
-// Reads a block and decodes its octets, from inside it, into the front of the samples: reading's refusals, 3 where the samples do not fit, the decoder's.
+// Reads a block and decodes its octets, from inside it, into the front of the samples.
+// It gives reading's refusals, then 3 where the samples are too few, then the decoder's.
 pub fn play(d: Decoder, b: &[u8], samples: &mut [i16]) -> Played
     ensures { λ r. ⌜ Does (playCall d (now (b .entry)) (now (samples .entry))) r (now (samples .exit)) ⌝ }
 {

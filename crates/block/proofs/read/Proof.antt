@@ -32,14 +32,16 @@ returns-2 c =
     c .refused2 .ensures ∙ sym (read-7 _ (l .if1 .left) (eqb-false _ _ wrong))
 
 -- the check is right
-right : (c : tie.Else2) → let b = c .before .before .before .before .before .before .before .args .b .now in check (take 510 b) ≡ twoAt b 510
+right : (c : tie.Else2) → let b = c .before .before .before .before .before .before .before .args .b .now in
+    check (take 510 b) ≡ twoAt b 510
 right c = eqb-true _ _ (sym (tested (c .before)) ∙ not-false _ (c .if2 .left))
 
 returns-3 : tie.Need-returns-3
 returns-3 c =
     let d = c .before .before in
     let l = d .before .before .before .before .before in
-    let f : wellFormed (l .before .before .args .b .now) ≡ false = sym (d .before .well-formed .ensures) ∙ not-true _ (c .before .if3 .taken) in
+    let f : wellFormed (l .before .before .args .b .now) ≡ false = sym (d .before .well-formed .ensures)
+    ∙ not-true _ (c .before .if3 .taken) in
     c .refused3 .ensures ∙ sym (read-8 _ (l .if1 .left) (right d) (λ h. no (sym (formed-within _ (l .if1 .left) h) ∙ f)))
 
 returns-4 : tie.Need-returns-4

@@ -8,4 +8,5 @@ returns c = (omega arith, omega arith)
 pub two-at-spec : {M : Type 1} → statement M
 two-at-spec =
     tie.close
-    (tie.spec (λ c. omega arith) (λ c κs. tt) (λ c. omega arith) (λ c. omega arith) (λ c κs. tt) (λ c. omega arith) (λ c. omega arith) returns)
+    (tie.spec (λ c. omega arith) (λ c κs. tt) (λ c. omega arith) (λ c. omega arith) (λ c κs. tt) (λ c. omega arith)
+    (λ c. omega arith) returns)

@@ -18,7 +18,8 @@ returns c =
     rw (← d .before .before .two-at .ensures .0, sym (d .allowed .ensures) ∙ not-true _ (c .if1 .taken))
 
 -- the mode and the count are allowed
-within : (c : tie.Else1) → let t = c .before .before .before in allowed (getD (t .before .before .args .b .now) 8 0) (t .two-at .result) ≡ true
+within : (c : tie.Else1) → let t = c .before .before .before in
+    allowed (getD (t .before .before .args .b .now) 8 0) (t .two-at .result) ≡ true
 within c = sym (c .before .allowed .ensures) ∙ not-false _ (c .if1 .left)
 
 returns-2 : tie.Need-returns-2
