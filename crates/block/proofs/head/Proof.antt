@@ -1,3 +1,4 @@
+-- `block::head` meets its contract: each byte is the last byte of its quotient.
 use Rattle.block.proofs.head.Statement.{statement}
 use Rattle.block.proofs.head.Tie as tie
 

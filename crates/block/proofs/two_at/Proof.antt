@@ -1,3 +1,4 @@
+-- `block::two_at` meets its contract, and its answer has 16 bits.
 use native.Mathlib.Omega.{arith}
 use Rattle.block.proofs.two_at.Statement.{statement}
 use Rattle.block.proofs.two_at.Tie as tie
