@@ -2,14 +2,16 @@
 -- Assumes nothing.
 use mathlib.Core.Path.{_≡_, refl, sym, ap, _∙_}
 use mathlib.Core.List.{List, [], _∷_}
-use Prim.Native.Nat.{ℕ, zero, suc, _+_, _≤_, _<_}
+use Prim.Native.Nat.{ℕ, zero, suc, _+_, _*_, _≤_, _<_}
 use native.Mathlib.Omega.{arith}
-use lib.ListN.{length, take, drop, length-drop}
+use lib.ListN.{length, getD, take, drop, length-drop, drop-of-length-le}
+use lib.Seq.{drop-drop}
 use lib.Dec.{ltb}
 use borrow.Author.Tests.{eq-eqb, ne-eqb, ltb-true, ltb-false}
 use Rattle.laws.specs.Order.{by-test}
 use Rattle.lines.specs.Lines.{blockLine, refusedLine}
 use Rattle.listing.specs.Listed.{listed}
+use Rattle.recording.specs.Stays.{pieceAt}
 use Rattle.recording.specs.Run.{Player, played, onward}
 use Rattle.listing.specs.Listing.{cut, pieces, start, linesFrom, listing}
 
@@ -40,6 +42,12 @@ pub pieces-none : pieces [] ≡ []
 unfolding pieces
 pieces-none = none-left 0 [] (omega arith)
 
+none-walked : (k : ℕ) (bytes : List ℕ) → length bytes ≤ 0 → getD (pieces bytes) k [] ≡ pieceAt bytes k
+unfolding pieces
+none-walked k bytes h =
+    ap (λ (l : List (List ℕ)). getD l k []) (none-left (length bytes) bytes h)
+    ∙ ap (take 512) (sym (drop-of-length-le bytes {i = 512 * k} (omega arith)))
+
 pub pieces-some : (bytes : List ℕ) → 0 < length bytes → pieces bytes ≡ take 512 bytes ∷ pieces (drop 512 bytes)
 unfolding pieces
 pieces-some bytes h =
@@ -47,6 +55,20 @@ pieces-some bytes h =
     let l = length-drop 512 bytes in
     enough n (suc n) bytes (omega arith) (omega arith) ∙ one-cut n bytes h
     ∙ ap (λ (more : List (List ℕ)). take 512 bytes ∷ more) (enough n (length (drop 512 bytes)) (drop 512 bytes) (omega arith) (omega arith))
+
+-- piece k is what a reader of the whole recording finds as block k
+pub pieces-walked : (k : ℕ) (bytes : List ℕ) → getD (pieces bytes) k [] ≡ pieceAt bytes k
+pieces-walked zero bytes =
+    by-test (ltb 0 (length bytes))
+    (λ e. ap (λ (l : List (List ℕ)). getD l 0 []) (pieces-some bytes (ltb-true 0 (length bytes) e)))
+    (λ e. none-walked 0 bytes (ltb-false 0 (length bytes) e))
+pieces-walked (suc k) bytes =
+    let on : 512 + 512 * k ≡ 512 * suc k = omega arith in
+    by-test (ltb 0 (length bytes))
+    (λ e. ap (λ (l : List (List ℕ)). getD l (suc k) []) (pieces-some bytes (ltb-true 0 (length bytes) e))
+    ∙ pieces-walked k (drop 512 bytes)
+    ∙ ap (take 512) (drop-drop (512 * k) 512 bytes ∙ ap (λ (n : ℕ). drop n bytes) on))
+    (λ e. none-walked (suc k) bytes (ltb-false 0 (length bytes) e))
 
 -- ---- the lines of what is left of a recording
 
