@@ -4,20 +4,8 @@ use mathlib.Core.Path.{_≡_, refl, sym, ap, _∙_}
 use mathlib.Core.List.{List, [], _∷_, _++_, append-assoc, append-nil}
 use Prim.Native.Nat.{ℕ, _+_, _-_, _≤_, _<_}
 use native.Mathlib.Omega.{arith}
-use lib.ListN.{
-  length,
-  getD,
-  set,
-  take,
-  drop,
-  replicate,
-  length-append,
-  length-drop,
-  length-set,
-  length-replicate,
-  getD-replicate,
-  take-append-drop,
-}
+use lib.ListN.{length, getD, set, take, drop, replicate, length-append, length-drop, length-set, length-replicate, getD-replicate}
+use lib.ListN.{take-append-drop}
 use lib.Seq.{ext-getD, getD-take, getD-set-same, getD-set-other, drop-set-lt, length-take-le}
 use lib.IntN.{ℤ, pos, negsuc}
 use lib.Signed.{ltZ, mag}

@@ -8,19 +8,8 @@ use lib.Dec.{eqb}
 use lib.IntN.{pos}
 use lib.ListN.{length, take, drop, replicate}
 use Rattle.g722.specs.Records.{resetDecoder}
-use Rattle.recording.specs.Run.{
-  Player,
-  played,
-  onward,
-  AllPlayed,
-  heard,
-  after,
-  allTold,
-  samplesRun,
-  decoderRun,
-  samples-one-run,
-  decoder-one-run,
-}
+use Rattle.recording.specs.Run.{Player, played, onward, AllPlayed, heard, after, allTold, samplesRun, decoderRun, samples-one-run}
+use Rattle.recording.specs.Run.{decoder-one-run}
 use Rattle.listing.specs.Listed.{listed}
 
 -- a recording in pieces of 512 bytes, of which the last may be shorter. So many turns are enough as there are bytes

@@ -13,20 +13,8 @@ use Rattle.g722.specs.Band.{term, sums, filtez, filtep, predic, recons}
 use Rattle.g722.specs.Mirror.{sum, coefficient, xd, xs, accumc, accumd}
 use Rattle.g722.specs.Records.{inRange, allInRange, goodPoles, goodFactors, goodLow, goodHigh, goodDecoder, resetBand, resetDecoder}
 use Rattle.g722.specs.Coding.{misfit}
-use Rattle.g722.specs.Decoding.{
-  rlOf,
-  rhOf,
-  rlRow,
-  rhRow,
-  firstOf,
-  secondOf,
-  decoderStep,
-  samplesOf,
-  decoderAfter,
-  notDecoded,
-  decoded,
-  decodeCall,
-}
+use Rattle.g722.specs.Decoding.{rlOf, rhOf, rlRow, rhRow, firstOf, secondOf, decoderStep, samplesOf, decoderAfter, notDecoded, decoded}
+use Rattle.g722.specs.Decoding.{decodeCall}
 use Rattle.block.specs.Check.{bitStep, bitSteps, byteStep, checkFrom, check}
 use Rattle.block.specs.Layout.{body, blockOf}
 use Rattle.block.specs.Calls.{between, allowed, allZero, wellFormed, readCall}
