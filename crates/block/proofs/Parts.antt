@@ -9,7 +9,8 @@ use lib.Seq.{take-at, length-take-le, sets-eq}
 use borrow.Rule.Slice.PartMut.{putMid}
 
 -- bytes a to e, written behind what stands before them
-pub behind : (a e : ℕ) (xs ys p : List ℕ) → a ≤ e → e ≤ length xs → length ys ≡ e - a → take a xs ≡ p → take e (putMid a (e - a) xs ys) ≡ p ++ ys
+pub behind : (a e : ℕ) (xs ys p : List ℕ) → a ≤ e → e ≤ length xs → length ys ≡ e - a → take a xs ≡ p
+    → take e (putMid a (e - a) xs ys) ≡ p ++ ys
 behind a e xs ys p h k l f =
     let lp : length p ≡ a = ap length (sym f) ∙ length-take-le a xs (omega arith) in
     let len : length (p ++ ys) ≡ e = length-append p ys ∙ omega arith in

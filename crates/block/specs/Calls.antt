@@ -1,12 +1,10 @@
 -- Writing a block and reading one, with their refusals.
 -- Assumes nothing.
-use mathlib.Core.Path.{_≡_}
-use mathlib.Core.Bool.{Bool, true, cond, not, _&&_, and-eq-true-iff}
+use mathlib.Core.Bool.{Bool, true, cond, not, _&&_}
 use mathlib.Core.List.{List, [], _∷_}
-use Prim.Native.Nat.{ℕ, _+_, _-_, _≤_}
+use Prim.Native.Nat.{ℕ, _+_, _-_}
 use lib.Dec.{eqb, leb}
 use lib.ListN.{length, getD, take, drop}
-use borrow.Author.Tests.{leb-true}
 use Rattle.laws.specs.Outcome.{Outcome}
 use Rattle.g722.specs.declared.Moved.{Moved}
 use Rattle.block.specs.Check.{check}
@@ -20,16 +18,20 @@ between lo hi x = leb lo x && leb x hi
 unfoldable pub allowed : ℕ → ℕ → Bool
 allowed mode count = between 1 3 mode && between 1 480 count
 
+-- writing has no index to give
+abbrev pub numbered : ℕ → Moved
+numbered number = record { number = number; index = 0 }
+
 -- a refused write leaves the lent bytes as they came
 unfoldable pub notWritten : ℕ → List ℕ → Outcome Moved (List ℕ)
-notWritten number lent = record { answer = record { number = number; index = 0 }; left = lent }
+notWritten number lent = record { answer = numbered number; left = lent }
 
 -- writing: 6, then 8
 unfoldable pub writeCall : ℕ → ℕ → ℕ → List ℕ → List ℕ → Outcome Moved (List ℕ)
 writeCall take block mode octets lent =
     cond (not (eqb (length lent) 512)) (notWritten 6 lent)
     (cond (not (allowed mode (length octets))) (notWritten 8 lent)
-    (record { answer = record { number = 0; index = 0 }; left = blockOf take block mode octets }))
+    (record { answer = numbered 0; left = blockOf take block mode octets }))
 
 unfoldable pub allZero : List ℕ → Bool
 allZero [] = true
@@ -52,12 +54,3 @@ readCall b =
     (cond (not (eqb (check (take 510 b)) (twoAt b 510))) (refused 7)
     (cond (not (wellFormed b)) (refused 8)
     (record { number = 0; index = 0; take = fourAt b 0; block = fourAt b 4; mode = getD b 8 0; count = twoAt b 10 })))
-
--- what is allowed has these bounds
-pub allowed-bounds : (mode count : ℕ) → allowed mode count ≡ true → (mode ≤ 3) × (count ≤ 480)
-unfolding allowed between
-allowed-bounds mode count e =
-    let h = and-eq-true-iff (between 1 3 mode) (between 1 480 count) .0 e in
-    let m = and-eq-true-iff (leb 1 mode) (leb mode 3) .0 (h .0) in
-    let c = and-eq-true-iff (leb 1 count) (leb count 480) .0 (h .1) in
-    (leb-true mode 3 (m .1), leb-true count 480 (c .1))

@@ -10,12 +10,14 @@ use lib.Bits.{bitXor, xor-lt, xor-comm}
 use lib.Dec.{ltb, eqb, lit<, lit≤}
 use lib.ListN.{length, getD, take, set, replicate, length-set}
 use lib.Seq.{length-take-le, take-set-lt, take-set-le, getD-take, getD-set-same, getD-set-other}
-use borrow.Author.Tests.{ltb-true, ltb-false, eqb-true, eqb-false, eq-eqb, ne-eqb}
+use borrow.Author.Tests.{ltb-true, ltb-false, eqb-true, eqb-false}
 use Rattle.laws.specs.Order.{by-test}
 use Rattle.block.specs.Xor.{xor-twice}
 use Rattle.block.specs.Check.{byteStep, checkFrom, check}
 use Rattle.block.specs.Layout.{twoBytes, fourBytes, twoAt, body, blockOf}
-use Rattle.block.specs.Calls.{allowed, allowed-bounds, refused, readCall}
+use Rattle.block.specs.Calls.{allowed, refused, readCall}
+use Rattle.block.specs.Formed.{allowed-bounds}
+use Rattle.block.specs.Numbers.{read-7}
 use Rattle.block.specs.Steps.{steps-same, byte-below}
 use Rattle.block.specs.Round.{block-length, check-right}
 
@@ -96,12 +98,20 @@ module _ (b : List ℕ) (n : length b ≡ 512) (bytes : Bytes b) (right : check 
 
   in-high : (v : ℕ) → check (take 510 (set b 510 v)) ≡ twoAt (set b 510 v) 510 → v ≡ getD b 510 0
   in-high v e =
-      let f = rw (take-set-le 510 b 510 v (lit≤ tt), getD-set-same b 510 v 0 (omega arith), getD-set-other b 510 511 v 0 (λ q. omega arith)) at e in
+      let f = rw (
+        take-set-le 510 b 510 v (lit≤ tt),
+        getD-set-same b 510 v 0 (omega arith),
+        getD-set-other b 510 511 v 0 (λ q. omega arith),
+      ) at e in
       omega arith
 
   in-low : (v : ℕ) → check (take 510 (set b 511 v)) ≡ twoAt (set b 511 v) 510 → v ≡ getD b 511 0
   in-low v e =
-      let f = rw (take-set-le 510 b 511 v (lit≤ tt), getD-set-same b 511 v 0 (omega arith), getD-set-other b 511 510 v 0 (λ q. omega arith)) at e in
+      let f = rw (
+        take-set-le 510 b 511 v (lit≤ tt),
+        getD-set-same b 511 v 0 (omega arith),
+        getD-set-other b 511 510 v 0 (λ q. omega arith),
+      ) at e in
       omega arith
 
   seen : (i v : ℕ) → i < 512 → v < 256 → check (take 510 (set b i v)) ≡ twoAt (set b i v) 510 → v ≡ getD b i 0
@@ -112,9 +122,7 @@ module _ (b : List ℕ) (n : length b ≡ 512) (bytes : Bytes b) (right : check 
       (λ g. let k = eqb-false i 510 g in let z : i ≡ 511 = omega arith in rw z (in-low v)))
 
   refused-7 : (i v : ℕ) → i < 512 → v < 256 → (v ≡ getD b i 0 → ⊥) → readCall (set b i v) ≡ refused 7
-  unfolding readCall
-  refused-7 i v hi hv d =
-      rw (eq-eqb _ _ (length-set b i v ∙ n), ne-eqb (check (take 510 (set b i v))) (twoAt (set b i v) 510) (λ e. d (seen i v hi hv e)))
+  refused-7 i v hi hv d = read-7 (set b i v) (length-set b i v ∙ n) (λ e. d (seen i v hi hv e))
 
 -- one byte of a written block, the check's two among them, is put to any other value: the block is refused with 7
 pub one-byte-changed : (take block mode : ℕ) (octets : List ℕ) → Bytes octets → allowed mode (length octets) ≡ true
@@ -122,5 +130,5 @@ pub one-byte-changed : (take block mode : ℕ) (octets : List ℕ) → Bytes oct
     → readCall (set (blockOf take block mode octets) i v) ≡ refused 7
 one-byte-changed t n m o p h =
     let k = allowed-bounds m (length o) h in
-    refused-7 (blockOf t n m o) (block-length t n m o (k .1)) (written t n m o p (omega arith))
-    (check-right t n m o (k .1))
+    refused-7 (blockOf t n m o) (block-length t n m o (k .count-most)) (written t n m o p (omega arith))
+    (check-right t n m o (k .count-most))

@@ -2,6 +2,8 @@
 pub mod Check
 pub mod Layout
 pub mod Calls
+pub mod Formed
+pub mod Numbers
 pub mod Xor
 pub mod Steps
 pub mod Round

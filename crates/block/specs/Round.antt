@@ -11,11 +11,13 @@ use lib.Pow.{shr-shr}
 use borrow.Author.Tests.{eq-eqb}
 use Rattle.block.specs.Check.{check}
 use Rattle.block.specs.Layout.{twoBytes, twoAt, fourAt, body, blockOf}
-use Rattle.block.specs.Calls.{allowed, allowed-bounds, allZero, wellFormed, readCall}
+use Rattle.block.specs.Calls.{allowed, allZero, wellFormed, readCall}
+use Rattle.block.specs.Formed.{allowed-bounds}
 use Rattle.block.specs.Steps.{check-below}
 
 -- a number from its bytes
-spelt : (n a b c : ℕ) → n / 256 ≡ a → a / 256 ≡ b → b / 256 ≡ c → c < 256 → (c % 256 * 256 + b % 256) * 65536 + (a % 256 * 256 + n % 256) ≡ n
+spelt : (n a b c : ℕ) → n / 256 ≡ a → a / 256 ≡ b → b / 256 ≡ c → c < 256
+    → (c % 256 * 256 + b % 256) * 65536 + (a % 256 * 256 + n % 256) ≡ n
 spelt n a b c p q r h = omega arith
 
 four : (n : ℕ) → n < 4294967296 → (n / 16777216 % 256 * 256 + n / 65536 % 256) * 65536 + (n / 256 % 256 * 256 + n % 256) ≡ n
@@ -77,19 +79,24 @@ module _ (t n m : ℕ) (o : List ℕ) where
   behind-zero =
       let k = 510 - (12 + length o) in
       let c = twoBytes (check (body t n m o)) in
-      rw (← drop-drop (length o) 12 (blockOf t n m o), tail-is, drop-at o (zs ++ c) (length o) refl, take-at zs c k (length-replicate k 0)) (zeros k)
+      rw (
+        ← drop-drop (length o) 12 (blockOf t n m o),
+        tail-is,
+        drop-at o (zs ++ c) (length o) refl,
+        take-at zs c k (length-replicate k 0),
+      ) (zeros k)
 
   formed : allowed m (length o) ≡ true → wellFormed (blockOf t n m o) ≡ true
   unfolding wellFormed
-  formed h = rw (count-in (allowed-bounds m (length o) h .1), mode-in, h, zero-in, behind-zero)
+  formed h = rw (count-in (allowed-bounds m (length o) h .count-most), mode-in, h, zero-in, behind-zero)
 
-  -- a block written with a mode of 1 to 3 and 1 to 480 octets is read with number 0, and with the take number, block number, mode and count that
-  -- were written
+  -- a block written with a mode of 1 to 3 and 1 to 480 octets is read with number 0,
+  -- and with the take number, block number, mode and count that were written
   pub reads-back : t < 4294967296 → n < 4294967296 → allowed m (length o) ≡ true
       → (readCall (blockOf t n m o) ≡ record { number = 0; index = 0; take = t; block = n; mode = m; count = length o })
   unfolding readCall
   reads-back ht hn h =
-      let k = allowed-bounds m (length o) h .1 in
+      let k = allowed-bounds m (length o) h .count-most in
       rw (eq-eqb _ _ (block-length k), eq-eqb _ _ (check-right k), formed h) (cc (take-in ht, block-in hn, mode-in, count-in k))
 
   -- and its octets stand from byte 12 on

@@ -1,14 +1,14 @@
-// The logger's 512-byte blocks (document 01, "Logger blocks"): their check, writing one, reading one.
+// The logger's 512-byte blocks (SCOPE, logger blocks): their check, writing one, reading one.
 ghost use mathlib.Core.Path.{_≡_};
 ghost use Prim.Native.Nat.{_+_, _%_, _<_, _≤_};
 ghost use lib.ListN.{length, replicate};
 ghost use Rattle.laws.specs.Outcome.{Does};
 ghost use Rattle.block.specs.Check.{byteStep, check};
 ghost use Rattle.block.specs.Layout.{head, body, blockOf, twoAt, fourAt};
-ghost use Rattle.block.specs.Calls.{between, allowed, allZero, wellFormed, refused, writeCall, readCall};
+ghost use Rattle.block.specs.Calls.{between, allowed, allZero, wellFormed, refused, numbered, writeCall, readCall};
 use g722::Moved;
 
-// What a block says: document 01's number, and where it is 0 the fields.
+// What a block says: the number of SCOPE, and where it is 0 the fields.
 pub struct BlockRead {
     pub number: u8,
     pub index: usize,
@@ -135,27 +135,30 @@ fn put(take: u32, block: u32, mode: u8, octets: &[u8], out: &mut [u8])
     out[511] = byte(sum);
 }
 
+// The answer of a write.
+fn numbered(number: u8) -> Moved
+    ensures { λ r. ⌜ r ≡ numbered number ⌝ }
+{
+    Moved {
+        number: number,
+        index: 0,
+    }
+}
+
 // Writes a block into the 512 bytes lent: 6, then 8.
 pub fn write(take: u32, block: u32, mode: u8, octets: &[u8], out: &mut [u8]) -> Moved
     ensures { λ r. ⌜ Does (writeCall take block mode (now (octets .entry)) (now (out .entry))) r (now (out .exit)) ⌝ }
 {
-    if out.len() != 512 {
-        return Moved {
-            number: 6,
-            index: 0,
-        };
+    let whole = out.len() == 512;
+    let fits = allowed(mode, octets.len());
+    if !whole {
+        return numbered(6);
     }
-    if !allowed(mode, octets.len()) {
-        return Moved {
-            number: 8,
-            index: 0,
-        };
+    if !fits {
+        return numbered(8);
     }
     put(take, block, mode, octets, out);
-    Moved {
-        number: 0,
-        index: 0,
-    }
+    numbered(0)
 }
 
 // The same byte in 32 bits.
@@ -234,10 +237,12 @@ pub fn read(b: &[u8]) -> BlockRead
     if b.len() != 512 {
         return refused(6);
     }
-    if check(&b[0..510]) as u32 != two_at(b, 510) {
+    let right = check(&b[0..510]) as u32 == two_at(b, 510);
+    let formed = well_formed(b);
+    if !right {
         return refused(7);
     }
-    if !well_formed(b) {
+    if !formed {
         return refused(8);
     }
     let mode = b[8];

@@ -4,7 +4,8 @@ use mathlib.Core.Path.{_≡_, refl, sym, ap, _∙_}
 use mathlib.Core.List.{List, [], _∷_, _++_, append-assoc, append-nil}
 use Prim.Native.Nat.{ℕ, _+_, _-_, _≤_, _<_}
 use native.Mathlib.Omega.{arith}
-use lib.ListN.{length, getD, set, take, drop, replicate, length-append, length-drop, length-set, length-replicate, getD-replicate, take-append-drop}
+use lib.ListN.{length, getD, set, take, drop, replicate, length-append, length-drop, length-set, length-replicate, getD-replicate}
+use lib.ListN.{take-append-drop}
 use lib.Seq.{ext-getD, getD-take, getD-set-same, getD-set-other, drop-set-lt, length-take-le}
 use lib.IntN.{ℤ, pos, negsuc}
 use lib.Signed.{ltZ, mag}
@@ -20,7 +21,8 @@ pub held-length : {line : Line} → Sound line → length (held line) + line .at
 held-length {line} s = rw length-drop (omega (arith, s .size, s .inside))
 
 -- a byte
-pub put-byte : (line : Line) (b : ℕ) → Ready 1 line → Wrote 1 (b ∷ []) line (record { bytes = set (line .bytes) (line .at - 1) b; at = line .at - 1 })
+pub put-byte : (line : Line) (b : ℕ) → Ready 1 line → Wrote 1 (b ∷ []) line
+    (record { bytes = set (line .bytes) (line .at - 1) b; at = line .at - 1 })
 put-byte line b h =
     let xs = line .bytes in
     let i = line .at - 1 in
@@ -34,13 +36,16 @@ put-byte line b h =
         inside = omega (arith, s .inside);
         blank = λ j k. getD-set-other xs i j b 0 (λ e. omega arith) ∙ s .blank j (omega arith);
       };
-      text = drop-one (set xs i b) i 0 in-set ∙ (λ j. getD-set-same xs i b 0 in-it j ∷ drop-set-lt (i + 1) xs i b (omega arith) j) ∙ ap (λ (n : ℕ). b ∷ drop n xs) next;
+      text = drop-one (set xs i b) i 0 in-set ∙ (λ j. getD-set-same xs i b 0 in-it j ∷ drop-set-lt (i + 1) xs i b (omega arith) j)
+          ∙ ap (λ (n : ℕ). b ∷ drop n xs) next;
       room = omega arith;
     }
 
 -- a run of bytes from its end: what is left of it, before what is held, stays the whole
-pub turn : (x y : List ℕ) {whole : List ℕ} {b : ℕ} {line r : Line} → x ≡ y ++ (b ∷ []) → Wrote 1 (b ∷ []) line r → x ++ held line ≡ whole → y ++ held r ≡ whole
-turn x y {whole} {b} {line} {r} e w h = ap (λ (t : List ℕ). y ++ t) (w .text) ∙ sym (append-assoc y (b ∷ []) (held line)) ∙ ap (λ (t : List ℕ). t ++ held line) (sym e) ∙ h
+pub turn : (x y : List ℕ) {whole : List ℕ} {b : ℕ} {line r : Line} → x ≡ y ++ (b ∷ []) → Wrote 1 (b ∷ []) line r → x ++ held line ≡ whole
+    → y ++ held r ≡ whole
+turn x y {whole} {b} {line} {r} e w h = ap (λ (t : List ℕ). y ++ t) (w .text) ∙ sym (append-assoc y (b ∷ []) (held line))
+    ∙ ap (λ (t : List ℕ). t ++ held line) (sym e) ∙ h
 
 module _ (w : List ℕ) {line r : Line} (s : Sound line) (t : Sound r) where
   -- so there is room for what is left where there was for the whole
@@ -74,7 +79,11 @@ pub empty-ready : {line : Line} → line ≡ lineOf [] → Ready 160 line
 unfolding lineOf
 empty-ready {line} e =
     rw e (record {
-      sound = record { size = refl; inside = omega arith; blank = λ i h. ap (λ (l : List ℕ). getD l i 0) (append-nil (replicate 160 0)) ∙ getD-replicate 160 i 0 0 h };
+      sound = record {
+        size = refl;
+        inside = omega arith;
+        blank = λ i h. ap (λ (l : List ℕ). getD l i 0) (append-nil (replicate 160 0)) ∙ getD-replicate 160 i 0 0 h;
+      };
       room = omega arith;
     })
 
@@ -86,7 +95,8 @@ shut {line} s =
     let front : take (line .at) (line .bytes) ≡ replicate (line .at) 0 =
     ext-getD 0 _ _ (size ∙ sym (length-replicate (line .at) 0))
     (λ i h. let k : i < line .at = omega arith in getD-take _ _ i 0 k ∙ s .blank i k ∙ sym (getD-replicate _ i 0 0 k)) in
-    let bytes = sym (take-append-drop (line .at) (line .bytes)) ∙ ap (λ (t : List ℕ). t ++ held line) (front ∙ ap (λ (n : ℕ). replicate n 0) at) in
+    let bytes = sym (take-append-drop (line .at) (line .bytes))
+    ∙ ap (λ (t : List ℕ). t ++ held line) (front ∙ ap (λ (n : ℕ). replicate n 0) at) in
     λ i. record { bytes = bytes i; at = at i }
 
 none-held : (w : List ℕ) → w ++ held (lineOf []) ≡ w

@@ -1,3 +1,5 @@
--- Numbers in decimal, and the lines made of them.
+-- Numbers in decimal, texts as bytes, and the lines made of them.
 pub mod Decimal
+pub mod Text
 pub mod Lines
+pub mod Cases

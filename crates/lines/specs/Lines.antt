@@ -6,17 +6,19 @@ use Prim.Native.Nat.{ℕ, _+_, _-_, _≤_, _<_}
 use lib.IntN.{ℤ}
 use lib.ListN.{length, getD, drop, replicate}
 use Rattle.lines.specs.Decimal.{decimal, signed}
+use Rattle.lines.specs.Text.{ascii}
 use Rattle.lines.specs.declared.Line.{Line}
 
 -- "take block mode count first last", single spaces between them and a line feed behind them
 unfoldable pub blockLine : ℕ → ℕ → ℕ → ℕ → ℤ → ℤ → List ℕ
 blockLine take block mode count first last =
-    decimal take ++ (32 ∷ decimal block ++ (32 ∷ decimal mode ++ (32 ∷ decimal count ++ (32 ∷ signed first ++ (32 ∷ signed last ++ (10 ∷ []))))))
+    decimal take ++ (32 ∷ decimal block ++ (32 ∷ decimal mode ++ (32 ∷ decimal count
+    ++ (32 ∷ signed first ++ (32 ∷ signed last ++ (10 ∷ []))))))
 
 -- "refused number blocks", alike
 unfoldable pub refusedLine : ℕ → ℕ → List ℕ
 refusedLine number blocks =
-    114 ∷ 101 ∷ 102 ∷ 117 ∷ 115 ∷ 101 ∷ 100 ∷ (32 ∷ decimal number ++ (32 ∷ decimal blocks ++ (10 ∷ [])))
+    ascii "refused" ++ (32 ∷ decimal number ++ (32 ∷ decimal blocks ++ (10 ∷ [])))
 
 -- a line held at the end of 160 bytes, behind zeros
 unfoldable pub lineOf : List ℕ → Line

@@ -1,3 +1,5 @@
--- What the listing says of a block, and the sums that document 01 has of it.
+-- What the listing says of a block, the whole listing, its turns, and the sums of it.
 pub mod Listed
+pub mod Listing
+pub mod Turns
 pub mod Sums

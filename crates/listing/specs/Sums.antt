@@ -1,9 +1,8 @@
--- Sums 14 and 15 of document 01, over the definitions.
+-- Sums 14 and 15, and no input: of the whole listing.
 -- Assumes nothing.
 use mathlib.Core.Path.{_≡_, refl}
-use mathlib.Core.List.{List, [], _∷_, zipWith}
+use mathlib.Core.List.{List, [], _∷_, _++_, zipWith}
 use Prim.Native.Nat.{ℕ}
-use lib.IntN.{pos}
 use lib.ListN.{replicate}
 use Rattle.laws.specs.Clamp.{clamp}
 use Rattle.g722.specs.Arithmetic.{add, sub, mul, limit, sameSign, within, equal}
@@ -14,29 +13,45 @@ use Rattle.g722.specs.Band.{term, sums, filtez, filtep, predic, recons}
 use Rattle.g722.specs.Mirror.{sum, coefficient, xd, xs, accumc, accumd}
 use Rattle.g722.specs.Records.{inRange, allInRange, goodPoles, goodFactors, goodLow, goodHigh, goodDecoder, resetBand, resetDecoder}
 use Rattle.g722.specs.Coding.{misfit}
-use Rattle.g722.specs.Decoding.{rlOf, rhOf, rlRow, rhRow, firstOf, secondOf, decoderStep, samplesOf, decoderAfter, notDecoded, decoded, decodeCall}
+use Rattle.g722.specs.Decoding.{rlOf, rhOf, rlRow, rhRow, firstOf, secondOf, decoderStep, samplesOf, decoderAfter, notDecoded, decoded}
+use Rattle.g722.specs.Decoding.{decodeCall}
 use Rattle.block.specs.Check.{bitStep, bitSteps, byteStep, checkFrom, check}
 use Rattle.block.specs.Layout.{body, blockOf}
 use Rattle.block.specs.Calls.{between, allowed, allZero, wellFormed, readCall}
+use Rattle.recording.specs.Run.{onward}
 use Rattle.recording.specs.Play.{reported, playedFrom, playCall}
 use Rattle.lines.specs.Decimal.{spelled, decimal, signed}
 use Rattle.lines.specs.Lines.{blockLine, refusedLine}
+use Rattle.lines.specs.Text.{ascii}
 use Rattle.listing.specs.Listed.{listed}
+use Rattle.listing.specs.Listing.{cut, pieces, start, linesFrom, listing}
 
--- the first line of a recording's listing, from the first piece of it
-abbrev first : List ℕ → List ℕ
-first piece = listed (playCall resetDecoder piece (replicate 960 (pos 0)) .answer) 0
+-- no input, no lines
+pub nothing : listing [] ≡ []
+unfolding listing pieces cut linesFrom
+nothing = refl
 
--- 14. 512 zero bytes: "refused 7 0"; 511 bytes: "refused 6 0"
-pub zeros : first (replicate 512 0) ≡ 114 ∷ 101 ∷ 102 ∷ 117 ∷ 115 ∷ 101 ∷ 100 ∷ 32 ∷ 55 ∷ 32 ∷ 48 ∷ 10 ∷ []
-unfolding listed playCall readCall check checkFrom byteStep bitSteps bitStep refusedLine decimal spelled
+-- 14. 512 zero bytes, and 511
+pub zeros : listing (replicate 512 0) ≡ ascii "refused 7 0\n" ∷ []
+unfolding listing pieces cut linesFrom start listed playCall readCall check checkFrom byteStep bitSteps bitStep refusedLine decimal
+    spelled ascii
 zeros = refl
 
-pub short : first (replicate 511 0) ≡ 114 ∷ 101 ∷ 102 ∷ 117 ∷ 115 ∷ 101 ∷ 100 ∷ 32 ∷ 54 ∷ 32 ∷ 48 ∷ 10 ∷ []
-unfolding listed playCall readCall refusedLine decimal spelled
+pub short : listing (replicate 511 0) ≡ ascii "refused 6 0\n" ∷ []
+unfolding listing pieces cut linesFrom start listed playCall readCall refusedLine decimal spelled ascii
 short = refl
 
--- 15. take 7, block 0, mode 1, the octet FA: "7 0 1 1 0 -1"
-pub one-octet : first (blockOf 7 0 1 (250 ∷ [])) ≡ 55 ∷ 32 ∷ 48 ∷ 32 ∷ 49 ∷ 32 ∷ 49 ∷ 32 ∷ 48 ∷ 32 ∷ 45 ∷ 49 ∷ 10 ∷ []
-unfolding listed playCall readCall check checkFrom byteStep bitSteps bitStep blockOf body wellFormed allowed between allZero playedFrom reported blockLine decimal spelled signed decodeCall misfit goodDecoder goodLow goodHigh goodPoles goodFactors inRange allInRange resetDecoder resetBand decoded notDecoded samplesOf decoderAfter decoderStep firstOf secondOf rlOf rhOf rlRow rhRow accumc accumd xd xs sum coefficient h limit clamp add sub mul sameSign within equal inForce invqbl invqal invqah inverse fromFour fromFive fromSix fromTwo qq4 qq5 qq6 qq2 recons predic filtez filtep term sums scalel scaleh scaleAt ila zipWith
-one-octet = refl
+-- 15. take 7, block 0, mode 1, the octet FA
+abbrev one : List ℕ
+one = blockOf 7 0 1 (0xFA ∷ [])
+
+-- by itself; and before a block that is refused, after which nothing is listed
+pub one-octet : (listing one ≡ ascii "7 0 1 1 0 -1\n" ∷ [])
+    × (listing (one ++ (replicate 512 0 ++ one)) ≡ ascii "7 0 1 1 0 -1\n" ∷ ascii "refused 7 1\n" ∷ [])
+unfolding listing pieces cut linesFrom start onward listed playCall readCall check checkFrom byteStep bitSteps bitStep blockOf body
+    wellFormed allowed between allZero playedFrom reported blockLine refusedLine decimal spelled signed ascii decodeCall misfit
+    goodDecoder goodLow goodHigh goodPoles goodFactors inRange allInRange resetDecoder resetBand decoded notDecoded samplesOf
+    decoderAfter decoderStep firstOf secondOf rlOf rhOf rlRow rhRow accumc accumd xd xs sum coefficient h limit clamp add sub mul
+    sameSign within equal inForce invqbl invqal invqah inverse fromFour fromFive fromSix fromTwo qq4 qq5 qq6 qq2 recons predic filtez
+    filtep term sums scalel scaleh scaleAt ila zipWith
+one-octet = (refl, refl)

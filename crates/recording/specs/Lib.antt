@@ -1,4 +1,7 @@
--- The walk of a recording, what follows of it, and a block played.
+-- The walk of a recording and what follows of it; a block played, what follows of that, and blocks played in a row.
 pub mod Walk
 pub mod Stays
 pub mod Play
+pub mod Played
+pub mod Run
+pub mod Enough

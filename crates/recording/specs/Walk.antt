@@ -9,9 +9,9 @@ use Rattle.block.specs.Calls.{refused, readCall}
 use Rattle.block.specs.declared.BlockRead.{BlockRead}
 use Rattle.recording.specs.declared.Step.{Step}
 
--- the end: nothing was read, and the walk stays
+-- the end is no block: it has a number that no block gives, be it read or refused, and the walk stays
 abbrev pub ended : ℕ → Step
-ended at = record { end = true; block = refused 0; next = at }
+ended at = record { end = true; block = refused 255; next = at }
 
 -- a block that was read or refused: the walk goes on past a good one, and stays at a refused one
 unfoldable pub stood : BlockRead → ℕ → Step

@@ -1,4 +1,4 @@
-// A recording: 512-byte blocks one after another (document 01, "Logger blocks"), walked and played.
+// A recording: 512-byte blocks one after another (SCOPE, logger blocks), walked and played.
 ghost use mathlib.Core.Path.{_≡_};
 ghost use Prim.Native.Nat.{_+_, _<_, _^_};
 ghost use Rattle.laws.specs.Outcome.{Does};
@@ -20,7 +20,7 @@ pub struct Step {
     pub next: usize,
 }
 
-// The answer of playing a block: document 01's number, the decoder's next record, and where the number is 0 what the listing says.
+// The answer of playing a block: the number of SCOPE, the decoder's next record, and where the number is 0 what the listing says.
 pub struct Played {
     pub number: u8,
     pub index: usize,
@@ -33,14 +33,14 @@ pub struct Played {
     pub last: i16,
 }
 
-// Nothing is left: the walk stays.
+// Nothing is left: the walk stays, and the number is 255, which no block gives.
 fn ended(at: usize) -> Step
     ensures { λ r. ⌜ r ≡ ended at ⌝ }
 {
     Step {
         end: true,
         block: BlockRead {
-            number: 0,
+            number: 255,
             index: 0,
             take: 0,
             block: 0,
@@ -135,7 +135,8 @@ fn not_played(number: u8, d: Decoder) -> Played
     }
 }
 
-// Reads a block and decodes its octets, from inside it, into the front of the samples: reading's refusals, 3 where the samples do not fit, the decoder's.
+// Reads a block and decodes its octets, from inside it, into the front of the samples.
+// It gives reading's refusals, then 3 where the samples are too few, then the decoder's.
 pub fn play(d: Decoder, b: &[u8], samples: &mut [i16]) -> Played
     ensures { λ r. ⌜ Does (playCall d (now (b .entry)) (now (samples .entry))) r (now (samples .exit)) ⌝ }
 {

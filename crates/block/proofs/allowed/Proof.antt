@@ -1,3 +1,4 @@
+-- `block::allowed` meets its contract: the definition makes the same tests.
 use mathlib.Core.Path.{_≡_, sym, _∙_}
 use mathlib.Core.Bool.{true, false}
 use Rattle.block.specs.Calls.{allowed, between}

@@ -1,3 +1,4 @@
+-- `block::between` meets its contract: the definition makes the same tests.
 use native.Mathlib.Omega.{arith}
 use borrow.Author.Tests.{le-leb, lt-leb}
 use Rattle.block.specs.Calls.{between}

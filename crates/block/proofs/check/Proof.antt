@@ -12,7 +12,8 @@ use Rattle.block.proofs.check.Statement.{statement}
 use Rattle.block.proofs.check.Tie as tie
 
 -- one byte more
-more : (s : List ℕ) (reg next i : ℕ) → i < length s → next ≡ byteStep reg (getD s i 0) → checkFrom next (drop (i + 1) s) ≡ checkFrom reg (drop i s)
+more : (s : List ℕ) (reg next i : ℕ) → i < length s → next ≡ byteStep reg (getD s i 0)
+    → checkFrom next (drop (i + 1) s) ≡ checkFrom reg (drop i s)
 unfolding checkFrom
 more s reg next i h e = rw (add-one, drop-cons s i 0 h, e)
 

@@ -19,7 +19,8 @@ returns c =
     let a = p .before .before .args in
     let fits = p .before .before .fits in
     finished (p .before .empty .ensures .0)
-    (both (both (both (both (both (both (p .put .ensures) (s1 .signed-field .ensures)) (s2 .signed-field2 .ensures)) (f1 .field .ensures)) (f2 .field2 .ensures)) (f3 .field3 .ensures)) (c .decimal .ensures))
+    (both (both (both (both (both (both (p .put .ensures) (s1 .signed-field .ensures)) (s2 .signed-field2 .ensures)) (f1 .field .ensures))
+    (f2 .field2 .ensures)) (f3 .field3 .ensures)) (c .decimal .ensures))
     ∙ λ i. lineOf (blockLine (a .take) (a .block) (a .mode) (a .count) (toZ-ofZ (fits .first) i) (toZ-ofZ (fits .last) i))
 
 pub block-line-spec : {M : Type 1} → statement M

@@ -25,19 +25,30 @@ most c = decimal-most 19 (c .args .n) (omega (arith, c .fits .n))
 
 -- there is room for the digits that are left
 room : (c : tie.At-loop Inv-loop μ-loop) → length (decimal (c .loop .rest)) ≤ c .loop .all .at
-room c = left (decimal (c .before .args .n)) (c .before .pre .sound) (c .loop .inv .0) (decimal (c .loop .rest)) (c .loop .inv .1) (omega (arith, most (c .before), c .before .pre .room))
+room c = left (decimal (c .before .args .n)) (c .before .pre .sound) (c .loop .inv .0) (decimal (c .loop .rest)) (c .loop .inv .1)
+    (omega (arith, most (c .before), c .before .pre .room))
 
 put-requires : tie.Need-put-requires Inv-loop μ-loop
-put-requires c κs = record { sound = c .before .before .loop .inv .0; room = omega (arith, room (c .before .before), decimal-some (c .before .before .loop .rest)) }
+put-requires c κs = record {
+  sound = c .before .before .loop .inv .0;
+  room = omega (arith, room (c .before .before), decimal-some (c .before .before .loop .rest));
+}
 
 loop-again : tie.Need-loop-again Inv-loop μ-loop
 loop-again c =
     let d = c .before in
-    let l = d .before .before .loop in
-    (c .put .ensures .sound, turn (decimal (l .rest)) (decimal (l .rest / 10)) (decimal-more (l .rest) (omega arith) ∙ ap (λ (b : ℕ). decimal (l .rest / 10) ++ (b ∷ [])) (sym (d .digit .ensures))) (c .put .ensures) (l .inv .1))
+    let l = d .before .before .loop in (
+      c .put .ensures .sound,
+      turn (decimal (l .rest)) (decimal (l .rest / 10))
+          (decimal-more (l .rest) (omega arith) ∙ ap (λ (b : ℕ). decimal (l .rest / 10) ++ (b ∷ [])) (sym (d .digit .ensures)))
+          (c .put .ensures) (l .inv .1),
+    )
 
 put-requires-2 : tie.Need-put-requires-2 Inv-loop μ-loop
-put-requires-2 c κs = record { sound = c .before .before .loop .inv .0; room = omega (arith, room (c .before .before), decimal-some (c .before .before .loop .rest)) }
+put-requires-2 c κs = record {
+  sound = c .before .before .loop .inv .0;
+  room = omega (arith, room (c .before .before), decimal-some (c .before .before .loop .rest));
+}
 
 returns : tie.Need-returns Inv-loop μ-loop
 returns c =
@@ -45,7 +56,8 @@ returns c =
     let l = d .before .before .loop in
     let start = d .before .before .before in
     ran _ (start .pre .sound) (c .put2 .ensures .sound)
-    (turn (decimal (l .rest)) [] (decimal-one (l .rest) (omega arith) ∙ ap (λ (b : ℕ). b ∷ []) (sym (d .digit2 .ensures))) (c .put2 .ensures) (l .inv .1))
+    (turn (decimal (l .rest)) [] (decimal-one (l .rest) (omega arith) ∙ ap (λ (b : ℕ). b ∷ []) (sym (d .digit2 .ensures)))
+    (c .put2 .ensures) (l .inv .1))
     (most start)
 
 pub decimal-spec : {M : Type 1} → statement M

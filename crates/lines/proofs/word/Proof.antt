@@ -17,22 +17,32 @@ abbrev μ-loop : tie.MeasureT-loop
 μ-loop bytes all₀ i₀ all i = i
 
 loop-holds : tie.Need-loop-holds Inv-loop μ-loop
-loop-holds c = (omega arith, c .before .pre .sound, ap (λ (l : List ℕ). l ++ held (c .before .args .line)) (take-length (c .before .args .bytes .now)))
+loop-holds c = (
+  omega arith,
+  c .before .pre .sound,
+  ap (λ (l : List ℕ). l ++ held (c .before .args .line))
+      (take-length (c .before .args .bytes .now)),
+)
 
 put-requires : tie.Need-put-requires Inv-loop μ-loop
 put-requires c κs =
     let a = c .before .before in
     let b = a .before .before .args .bytes .now in
     let start = a .before .before in
-    record { sound = a .loop .inv .1; room = omega (arith, length-take-le (a .loop .i) b (a .loop .inv .0), left b (start .pre .sound) (a .loop .inv .1) (take (a .loop .i) b) (a .loop .inv .2) (start .pre .room)) }
+    let after = left b (start .pre .sound) (a .loop .inv .1) (take (a .loop .i) b) (a .loop .inv .2) (start .pre .room) in
+    record { sound = a .loop .inv .1; room = omega (arith, length-take-le (a .loop .i) b (a .loop .inv .0), after) }
 
 loop-again : tie.Need-loop-again Inv-loop μ-loop
 loop-again c =
     let a = c .before .before .before in
     let b = a .before .before .args .bytes .now in
     let i = a .loop .i in
-    let e : i ≡ suc (i - 1) = omega arith in
-    (omega arith, c .put .ensures .sound, turn (take i b) (take (i - 1) b) (ap (λ (n : ℕ). take n b) e ∙ take-suc b (i - 1) 0 (omega arith)) (c .put .ensures) (a .loop .inv .2))
+    let e : i ≡ suc (i - 1) = omega arith in (
+      omega arith,
+      c .put .ensures .sound,
+      turn (take i b) (take (i - 1) b)
+          (ap (λ (n : ℕ). take n b) e ∙ take-suc b (i - 1) 0 (omega arith)) (c .put .ensures) (a .loop .inv .2),
+    )
 
 returns : tie.Need-returns Inv-loop μ-loop
 returns c =

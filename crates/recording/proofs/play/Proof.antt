@@ -1,4 +1,5 @@
--- `recording::play` meets its contract: the decoder is lent a part of the block and a part of the samples, and each way out is a case of the definition.
+-- `recording::play` meets its contract: the decoder is lent a part of the block and a part of the samples, and each way out is a case of
+-- the definition.
 use mathlib.Core.Path.{refl, sym, _∙_}
 use mathlib.Core.List.{_++_}
 use Prim.Native.Nat.{_*_, _≤_}
@@ -7,7 +8,8 @@ use lib.ListN.{length, drop}
 use lib.Seq.{length-take-le}
 use Rattle.laws.specs.Back.{back16}
 use Rattle.laws.specs.Outcome.{does}
-use Rattle.recording.proofs.Laws.{Bounds, bounds, play-unread, play-narrow, said-refused, said-done, played}
+use Rattle.recording.specs.Played.{Bounds, play-unread, play-narrow}
+use Rattle.recording.proofs.Laws.{bounds, said-refused, said-done, played}
 use borrow.Author.Needs.{needs}
 use Rattle.recording.proofs.play.Statement.{statement}
 use Rattle.recording.proofs.play.Tie as tie
@@ -19,20 +21,23 @@ returns c =
 
 -- the block's bounds
 within : (c : tie.Else1) → Bounds (c .before .before .before .before .args .b .now) (c .before .before .read .result)
-within c = let s = c .before .before .before .before .args in bounds (s .d) (s .b .now) (s .samples .now) _ (c .before .before .read .ensures) (c .if1 .left)
+within c = let s = c .before .before .before .before .args in
+    bounds (s .d) (s .b .now) (s .samples .now) _ (c .before .before .read .ensures) (c .if1 .left)
 
 -- the samples are enough
-roomy : (c : tie.Else2) → 2 * c .before .before .before .read .result .count ≤ length (c .before .before .before .before .before .args .samples .now)
+roomy : (c : tie.Else2) → 2 * c .before .before .before .read .result .count ≤ length
+    (c .before .before .before .before .before .args .samples .now)
 roomy c = omega arith
 
 -- and so they are after the call
 long : (c : tie.After-samples)
     → let e = c .before .before .before .before .before in
-    2 * e .before .before .read .result .count ≤ length (c .before .decode .last .1 .1 .1 .0 ++ drop (2 * e .before .before .read .result .count) (e .before .before .before .before .args .samples .now))
+    2 * e .before .before .read .result .count ≤ length (c .before .decode .last .1 .1 .1 .0 ++ drop
+    (2 * e .before .before .read .result .count) (e .before .before .before .before .args .samples .now))
 long c = omega (arith, roomy (c .before .before .before .before), c .samples .given)
 
 mul-size : tie.Need-mul-size
-mul-size c = omega (arith, within c .most)
+mul-size c = omega (arith, within c .says .count-most)
 
 returns-2 : tie.Need-returns-2
 returns-2 c =
@@ -40,7 +45,7 @@ returns-2 c =
     does (play-narrow _ _ _ _ (e .before .before .read .ensures) (e .if1 .left) (omega arith)) (c .not-played2 .ensures) refl
 
 part-decode-end : tie.Need-part-decode-end
-part-decode-end c = omega (arith, within (c .before) .most, within (c .before) .size)
+part-decode-end c = omega (arith, within (c .before) .says .count-most, within (c .before) .size)
 
 slice-aggregate-decode : tie.Need-slice-aggregate-decode
 slice-aggregate-decode c = sym (length-take-le _ _ (omega arith))
@@ -49,29 +54,32 @@ returns-3 : tie.Need-returns-3
 returns-3 c =
     let t = c .before in
     let e = t .before .before .before .before .before .before .before in
-    played _ _ _ _ (e .before .before .read .ensures) (e .if1 .left) (roomy (t .before .before .before .before .before .before)) (t .before .before .before .decode .ensures) (c .not-played3 .ensures ∙ sym (said-refused _ _ _ _ (t .if3 .taken)))
+    played _ _ _ _ (e .before .before .read .ensures) (e .if1 .left) (roomy (t .before .before .before .before .before .before))
+    (t .before .before .before .decode .ensures) (c .not-played3 .ensures ∙ sym (said-refused _ _ _ _ (t .if3 .taken)))
 
 slice-copy-out-first : tie.Need-slice-copy-out-first
 slice-copy-out-first c =
     let t = c .before .before .before in
-    omega (arith, within (t .before .before .before .before .before) .some, long t)
+    omega (arith, within (t .before .before .before .before .before) .says .count-least, long t)
 
 sub-last : tie.Need-sub-last
-sub-last c = omega (arith, within (c .before .before .before .before .before .before .before .before .before) .some)
+sub-last c = omega (arith, within (c .before .before .before .before .before .before .before .before .before) .says .count-least)
 
 mul-last : tie.Need-mul-last
-mul-last c = omega (arith, within (c .before .before .before .before .before .before .before .before .before) .most)
+mul-last c = omega (arith, within (c .before .before .before .before .before .before .before .before .before) .says .count-most)
 
 slice-copy-out-last : tie.Need-slice-copy-out-last
 slice-copy-out-last c =
     let t = c .before .before .before .before in
-    omega (arith, within (t .before .before .before .before .before) .some, long t)
+    omega (arith, within (t .before .before .before .before .before) .says .count-least, long t)
 
 returns-4 : tie.Need-returns-4
 returns-4 c =
     let t = c .before .before .before in
     let e = t .before .before .before .before .before .before .before in
-    played _ _ _ _ (e .before .before .read .ensures) (e .if1 .left) (roomy (t .before .before .before .before .before .before)) (t .before .before .before .decode .ensures) (said-done _ _ _ _ (t .if3 .left) (back16 _ (c .before .first .given)) (back16 _ (c .last .given)))
+    played _ _ _ _ (e .before .before .read .ensures) (e .if1 .left) (roomy (t .before .before .before .before .before .before))
+    (t .before .before .before .decode .ensures) (said-done _ _ _ _ (t .if3 .left) (back16 _ (c .before .first .given))
+    (back16 _ (c .last .given)))
 
 pub play-spec : {M : Type 1} → statement M
 play-spec =

@@ -4,9 +4,10 @@ use Prim.Native.Nat.{ℕ, _+_, _-_, _*_}
 use native.Mathlib.Omega.{arith}
 use lib.ListN.{take, drop, length-take, length-drop}
 use Rattle.block.specs.Calls.{readCall}
+use Rattle.block.specs.Numbers.{read-6}
 use Rattle.block.specs.declared.BlockRead.{BlockRead}
 use Rattle.recording.specs.Walk.{stood}
-use Rattle.recording.proofs.Laws.{step-end, step-short, step-whole, read-short}
+use Rattle.recording.specs.Stays.{step-end, step-short, step-whole}
 use borrow.Author.Needs.{needs}
 use Rattle.recording.proofs.step_at.Statement.{statement}
 use Rattle.recording.proofs.step_at.Tie as tie
@@ -20,16 +21,21 @@ returns-2 c =
     let a = r .before .before .before .before .before .args in
     let from = 512 * a .at in
     let n : from + 512 - from ≡ 512 = omega arith in
-    c .stood .ensures ∙ ap (λ (x : BlockRead). stood x (a .at)) (r .read .ensures ∙ ap (λ (k : ℕ). readCall (take k (drop from (a .src .now)))) n) ∙ sym (step-whole (a .src .now) (a .at) (omega arith))
+    c .stood .ensures ∙ ap (λ (x : BlockRead). stood x (a .at))
+    (r .read .ensures ∙ ap (λ (k : ℕ). readCall (take k (drop from (a .src .now)))) n)
+    ∙ sym (step-whole (a .src .now) (a .at) (omega arith))
 
 returns-3 : tie.Need-returns-3
-returns-3 c = let a = c .before .before .before .before .before .args in c .ended2 .ensures ∙ sym (step-end (a .src .now) (a .at) (omega arith))
+returns-3 c = let a = c .before .before .before .before .before .args in c .ended2 .ensures
+    ∙ sym (step-end (a .src .now) (a .at) (omega arith))
 
 returns-4 : tie.Need-returns-4
 returns-4 c =
     let r = c .before in
     let a = r .before .before .before .before .before .before .args in
-    c .stood2 .ensures ∙ ap (λ (x : BlockRead). stood x (a .at)) (r .read2 .ensures ∙ read-short _ (λ e. omega (arith, simp (length-take, length-drop) at e))) ∙ sym (step-short (a .src .now) (a .at) (omega arith) (omega arith))
+    c .stood2 .ensures ∙ ap (λ (x : BlockRead). stood x (a .at))
+    (r .read2 .ensures ∙ read-6 _ (λ e. omega (arith, simp (length-take, length-drop) at e)))
+    ∙ sym (step-short (a .src .now) (a .at) (omega arith) (omega arith))
 
 pub step-at-spec : {M : Type 1} → statement M
 step-at-spec =

@@ -1,4 +1,7 @@
 -- `recording::stood` meets its contract: the definition makes the same test.
+use mathlib.Core.Path.{_≡_}
+use mathlib.Core.Bool.{true, false}
+use lib.Dec.{eqb}
 use borrow.Author.Needs.{needs}
 use borrow.Author.Tests.{eq-eqb, ne-eqb}
 use Rattle.recording.specs.Walk.{stood}
@@ -7,11 +10,15 @@ use Rattle.recording.proofs.stood.Tie as tie
 
 returns : tie.Need-returns
 unfolding stood
-returns c = rw (eq-eqb _ _ (c .if1 .taken))
+returns c =
+    let good : eqb (c .before .args .block .number) 0 ≡ true = eq-eqb _ 0 (c .if1 .taken) in
+    rw good
 
 returns-2 : tie.Need-returns-2
 unfolding stood
-returns-2 c = rw (ne-eqb _ _ (c .if1 .left))
+returns-2 c =
+    let bad : eqb (c .before .args .block .number) 0 ≡ false = ne-eqb _ 0 (c .if1 .left) in
+    rw bad
 
 pub stood-spec : {M : Type 1} → statement M
 stood-spec = tie.close (tie.spec
