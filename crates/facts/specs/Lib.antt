@@ -3,3 +3,4 @@ pub mod Lengths
 pub mod Reach
 pub mod Sent
 pub mod Upper
+pub mod Told

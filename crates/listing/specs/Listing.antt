@@ -8,7 +8,8 @@ use lib.Dec.{eqb}
 use lib.IntN.{pos}
 use lib.ListN.{length, take, drop, replicate}
 use Rattle.g722.specs.Records.{resetDecoder}
-use Rattle.recording.specs.Run.{Player, played, onward, AllPlayed, heard, after, allTold, samplesRun, decoderRun, samples-one-run}
+use Rattle.facts.specs.Told.{samplesRun, decoderRun}
+use Rattle.recording.specs.Run.{Player, played, onward, AllPlayed, heard, after, allTold, samples-one-run}
 use Rattle.recording.specs.Run.{decoder-one-run}
 use Rattle.listing.specs.Listed.{listed}
 

@@ -15,8 +15,9 @@ use Rattle.g722.specs.Cue.{dataNumber, dataCall, putCall}
 use Rattle.facts.specs.Upper.{upperSix}
 use Rattle.cue.specs.Round.{upper-kept, upper-six-kept}
 use Rattle.g722.specs.declared.Decoder.{Decoder}
+use Rattle.facts.specs.Told.{Told, decoderRun}
 use Rattle.promises.specs.Through.{answers}
-use Rattle.promises.specs.Sequences.{CodeInput, octetsThrough, samplesTaken, DecodeInput, Told, decoding, decoderRun, samplesThrough}
+use Rattle.promises.specs.Sequences.{CodeInput, octetsThrough, samplesTaken, DecodeInput, decoding, samplesThrough}
 use Rattle.promises.specs.Ends.{SameBands, AsSent, ends-equal}
 use Rattle.promises.specs.Unheard.{heardBits, Alike, AlikeCalls, none, more, answers-unheard, samples-unheard}
 

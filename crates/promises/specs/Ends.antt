@@ -20,8 +20,9 @@ use Rattle.facts.specs.Upper.{upperSix, low-by-four, upper-low, upper-high}
 use Rattle.g722.specs.declared.Band.{Band}
 use Rattle.g722.specs.declared.Coder.{Coder}
 use Rattle.g722.specs.declared.Decoder.{Decoder}
+use Rattle.facts.specs.Told.{Told, decoderRun}
 use Rattle.promises.specs.Sequences.{CodeInput, coderThrough, octetsThrough, samplesTaken, coder-as-one-run, octets-as-one-run}
-use Rattle.promises.specs.Sequences.{DecodeInput, Told, decoderRun, decoderThrough, octetsTaken, decoder-as-one-run}
+use Rattle.promises.specs.Sequences.{DecodeInput, decoderThrough, octetsTaken, decoder-as-one-run}
 
 -- the octets of a run
 abbrev pub received : List Told → List ℕ

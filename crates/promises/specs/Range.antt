@@ -19,7 +19,8 @@ use Rattle.g722.specs.Coding.{firstBad}
 use Rattle.g722.specs.Decoding.{rlOf, rhOf, firstOf, secondOf, decoderStep}
 use Rattle.g722.specs.declared.Band.{Band}
 use Rattle.g722.specs.declared.Decoder.{Decoder}
-use Rattle.promises.specs.Sequences.{DecodeInput, samplesThrough, Told, octetsTaken, samplesRun, samples-as-one-run}
+use Rattle.facts.specs.Told.{Told, samplesRun}
+use Rattle.promises.specs.Sequences.{DecodeInput, samplesThrough, octetsTaken, samples-as-one-run}
 
 -- ---- tests
 

@@ -14,7 +14,8 @@ use Rattle.facts.specs.Upper.{upperSix}
 use Rattle.g722.specs.declared.Coder.{Coder}
 use Rattle.g722.specs.declared.Decoder.{Decoder}
 use Rattle.g722.specs.declared.Moved.{Moved}
-use Rattle.promises.specs.Sequences.{DecodeInput, decoderRun}
+use Rattle.facts.specs.Told.{decoderRun}
+use Rattle.promises.specs.Sequences.{DecodeInput}
 use Rattle.promises.specs.Ends.{SameBands, AsSent}
 use Rattle.promises.specs.Carried.{Parcel, laden, withData, withoutData, six-kept, alike-calls}
 use Rattle.promises.specs.Made.{MadeFrom, lastOf}

@@ -2,7 +2,7 @@
 -- over what its accepted calls were given.
 -- Assumes nothing.
 use mathlib.Core.Path.{_≡_, refl, ap, _∙_}
-use mathlib.Core.List.{List, [], _∷_, _++_, map}
+use mathlib.Core.List.{List, [], _∷_, _++_}
 use Prim.Native.Nat.{ℕ, zero, suc, _*_}
 use native.Mathlib.Omega.{arith}
 use borrow.Author.Tests.{eqb-true, eqb-false}
@@ -10,12 +10,13 @@ use lib.IntN.{ℤ}
 use lib.ListN.{length}
 use Rattle.g722.specs.Quantise.{inForce}
 use Rattle.g722.specs.Coding.{coderStep, octetOf, octetsOf, coderAfter, coded, codeCall}
-use Rattle.g722.specs.Decoding.{firstOf, secondOf, decoderStep, samplesOf, decoderAfter, decoded, decodeCall}
+use Rattle.g722.specs.Decoding.{decoded, decodeCall}
 use Rattle.g722.specs.declared.Coder.{Coder}
 use Rattle.g722.specs.declared.Coded.{Coded}
 use Rattle.g722.specs.declared.Decoder.{Decoder}
 use Rattle.g722.specs.declared.Decoded.{Decoded}
 use Rattle.facts.specs.Lengths.{twice}
+use Rattle.facts.specs.Told.{Told, decoderRun, samplesRun, marked, decoder-run, samples-run, decoder-join, samples-join}
 use Rattle.promises.specs.Accepted.{coded-fits, coded-run, decoded-run}
 use Rattle.promises.specs.Refused.{code-beside, decode-beside}
 use Rattle.promises.specs.Through.{Calls, Runs, through, lefts, taken, as-one-run, left-as-one-run}
@@ -105,25 +106,6 @@ pub record DecodeInput : Type 0 where
   pub octets : List ℕ
   pub samples : List ℤ
 
--- an octet with the mode in force for it
-pub record Told : Type 0 where
-  pub mode : ℕ
-  pub octet : ℕ
-
--- one run over octets, each with its mode
-unfoldable pub decoderRun : Decoder → List Told → Decoder
-decoderRun d [] = d
-decoderRun d (t ∷ rest) = decoderRun (decoderStep (t .mode) d (t .octet)) rest
-
-unfoldable pub samplesRun : Decoder → List Told → List ℤ
-samplesRun d [] = []
-samplesRun d (t ∷ rest) =
-    firstOf (t .mode) d (t .octet) ∷ secondOf (t .mode) d (t .octet) ∷ samplesRun (decoderStep (t .mode) d (t .octet)) rest
-
--- the octets of a call, each with the call's mode
-abbrev pub marked : ℕ → List ℕ → List Told
-marked mode os = map (λ (o : ℕ). record { mode = mode; octet = o }) os
-
 abbrev pub decoding : Calls
 decoding =
     record {
@@ -139,29 +121,6 @@ decoding =
       after = decoderRun;
       out = samplesRun;
     }
-
-pub decoder-run : (mode : ℕ) (d : Decoder) (os : List ℕ) → decoderAfter mode d os ≡ decoderRun d (marked mode os)
-unfolding decoderRun decoderAfter
-decoder-run mode d [] = refl
-decoder-run mode d (o ∷ os) = decoder-run mode (decoderStep mode d o) os
-
-pub samples-run : (mode : ℕ) (d : Decoder) (os : List ℕ) → samplesOf mode d os ≡ samplesRun d (marked mode os)
-unfolding samplesRun samplesOf
-samples-run mode d [] = refl
-samples-run mode d (o ∷ os) =
-    ap (λ (l : List ℤ). firstOf mode d o ∷ secondOf mode d o ∷ l) (samples-run mode (decoderStep mode d o) os)
-
-pub decoder-join : (d : Decoder) (ts rest : List Told) → decoderRun d (ts ++ rest) ≡ decoderRun (decoderRun d ts) rest
-unfolding decoderRun
-decoder-join d [] rest = refl
-decoder-join d (t ∷ ts) rest = decoder-join (decoderStep (t .mode) d (t .octet)) ts rest
-
-pub samples-join : (d : Decoder) (ts rest : List Told) → samplesRun d (ts ++ rest) ≡ samplesRun d ts ++ samplesRun (decoderRun d ts) rest
-unfolding samplesRun decoderRun
-samples-join d [] rest = refl
-samples-join d (t ∷ ts) rest =
-    ap (λ (l : List ℤ). firstOf (t .mode) d (t .octet) ∷ secondOf (t .mode) d (t .octet) ∷ l)
-    (samples-join (decoderStep (t .mode) d (t .octet)) ts rest)
 
 module _ (d : Decoder) (k : DecodeInput) (h : decodeCall d (k .told) (k .octets) (k .samples) .answer .number ≡ 0) where
   heard-record : decodeCall d (k .told) (k .octets) (k .samples) .answer .next ≡ decoderRun d (marked (inForce (k .told)) (k .octets))

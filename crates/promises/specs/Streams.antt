@@ -19,10 +19,10 @@ use Rattle.g722.specs.declared.Coder.{Coder}
 use Rattle.g722.specs.declared.Coded.{Coded}
 use Rattle.g722.specs.declared.Decoder.{Decoder}
 use Rattle.g722.specs.declared.Decoded.{Decoded}
+use Rattle.facts.specs.Told.{Told, decoderRun, samplesRun, marked, decoder-run, samples-run, decoder-join, samples-join}
 use Rattle.promises.specs.Refused.{encode-chunk-beside, decode-chunk-beside}
 use Rattle.promises.specs.Through.{Calls, Runs, done, through, taken, lefts, as-one-run, left-as-one-run}
-use Rattle.promises.specs.Sequences.{CodeInput, coding, coding-runs, Told, decoderRun, samplesRun, marked}
-use Rattle.promises.specs.Sequences.{decoder-run, samples-run, decoder-join, samples-join}
+use Rattle.promises.specs.Sequences.{CodeInput, coding, coding-runs}
 
 -- ---- coding
 

@@ -25,8 +25,9 @@ use Rattle.g722.specs.Cue.{bits, bitsOf, spelt, carrying, unfilled, dataNumber,
 use Rattle.facts.specs.Upper.{upperSix}
 use Rattle.g722.specs.declared.Coded.{Coded}
 use Rattle.g722.specs.declared.Decoded.{Decoded}
+use Rattle.facts.specs.Told.{decoderRun}
 use Rattle.promises.specs.Through.{answers, ofAccepted}
-use Rattle.promises.specs.Sequences.{CodeInput, coding, octetsThrough, samplesTaken, decoding, decoderRun, octetsTaken}
+use Rattle.promises.specs.Sequences.{CodeInput, coding, octetsThrough, samplesTaken, decoding, octetsTaken}
 use Rattle.promises.specs.Ends.{received, SameBands}
 use Rattle.promises.specs.Carried.{Parcel, laden, withData, data-carried}
 

@@ -15,7 +15,8 @@ use Rattle.g722.specs.declared.Decoder.{Decoder}
 use Rattle.block.specs.Calls.{readCall}
 use Rattle.recording.specs.declared.Played.{Played}
 use Rattle.recording.specs.Played.{octetsIn, octets-length, read-bounds, play-done}
-use Rattle.recording.specs.Run.{Player, played, onward, AllPlayed, samples-length}
+use Rattle.facts.specs.Told.{samples-length}
+use Rattle.recording.specs.Run.{Player, played, onward, AllPlayed}
 
 -- every piece reads well
 unfoldable pub AllRead : List (List ℕ) → Type 0

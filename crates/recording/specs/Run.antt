@@ -8,28 +8,13 @@ use lib.IntN.{ℤ}
 use lib.ListN.{length, take}
 use lib.Seq.{take-at}
 use Rattle.laws.specs.Outcome.{Outcome}
-use Rattle.g722.specs.Decoding.{firstOf, secondOf, decoderStep, samplesOf, decoderAfter}
+use Rattle.g722.specs.Decoding.{samplesOf, decoderAfter}
 use Rattle.g722.specs.declared.Decoder.{Decoder}
+use Rattle.facts.specs.Told.{Told, decoderRun, samplesRun, marked, decoder-run, samples-run, samples-length, decoder-join, samples-join}
 use Rattle.block.specs.Calls.{readCall}
 use Rattle.recording.specs.Play.{playCall}
 use Rattle.recording.specs.Played.{octetsIn, octets-length, play-heard, play-done}
 use Rattle.recording.specs.declared.Played.{Played}
-
--- ---- one run
-
--- an octet and the mode that it is decoded in
-pub record Told : Type 0 where
-  pub mode : ℕ
-  pub octet : ℕ
-
-unfoldable pub samplesRun : Decoder → List Told → List ℤ
-samplesRun d [] = []
-samplesRun d (t ∷ rest) =
-    firstOf (t .mode) d (t .octet) ∷ secondOf (t .mode) d (t .octet) ∷ samplesRun (decoderStep (t .mode) d (t .octet)) rest
-
-unfoldable pub decoderRun : Decoder → List Told → Decoder
-decoderRun d [] = d
-decoderRun d (t ∷ rest) = decoderRun (decoderStep (t .mode) d (t .octet)) rest
 
 -- ---- block by block
 
@@ -59,52 +44,32 @@ unfoldable pub after : Player → List (List ℕ) → Player
 after p [] = p
 after p (piece ∷ rest) = after (onward p piece) rest
 
--- the octets of a block, and of all blocks, each with the mode of its block
-unfoldable pub marked : ℕ → List ℕ → List Told
-marked mode [] = []
-marked mode (o ∷ rest) = record { mode = mode; octet = o } ∷ marked mode rest
-
+-- the octets of all blocks, each with the mode of its block
 unfoldable pub allTold : List (List ℕ) → List Told
 allTold [] = []
 allTold (piece ∷ rest) = marked (readCall piece .mode) (octetsIn piece) ++ allTold rest
 
 -- ---- the two are the same
 
-samples-join : (mode : ℕ) (d : Decoder) (os : List ℕ) (rest : List Told)
-    → samplesRun d (marked mode os ++ rest) ≡ samplesOf mode d os ++ samplesRun (decoderAfter mode d os) rest
-unfolding samplesRun marked samplesOf decoderAfter
-samples-join mode d [] rest = refl
-samples-join mode d (o ∷ os) rest =
-    ap (λ (l : List ℤ). firstOf mode d o ∷ secondOf mode d o ∷ l) (samples-join mode (decoderStep mode d o) os rest)
-
-decoder-join : (mode : ℕ) (d : Decoder) (os : List ℕ) (rest : List Told)
-    → decoderRun d (marked mode os ++ rest) ≡ decoderRun (decoderAfter mode d os) rest
-unfolding decoderRun marked decoderAfter
-decoder-join mode d [] rest = refl
-decoder-join mode d (o ∷ os) rest = decoder-join mode (decoderStep mode d o) os rest
-
-pub samples-length : (mode : ℕ) (d : Decoder) (os : List ℕ) → length (samplesOf mode d os) ≡ 2 * length os
-unfolding samplesOf
-samples-length mode d [] = refl
-samples-length mode d (o ∷ os) = let l = samples-length mode (decoderStep mode d o) os in omega arith
-
 module _ (p : Player) (piece : List ℕ) (z : played p piece .answer .number ≡ 0) where
   abbrev mode : ℕ
   mode = readCall piece .mode
 
-  next-is : onward p piece .decoder ≡ decoderAfter mode (p .decoder) (octetsIn piece)
+  next-is : onward p piece .decoder ≡ decoderRun (p .decoder) (marked mode (octetsIn piece))
   unfolding onward
   next-is =
       let h = play-heard (p .decoder) piece (p .samples) z in
       ap (λ (x : Outcome Played (List ℤ)). x .answer .next) (play-done (p .decoder) piece (p .samples) (h .read) (h .room) (h .sound))
+      ∙ decoder-run mode (p .decoder) (octetsIn piece)
 
-  front-is : take (2 * played p piece .answer .count) (played p piece .left) ≡ samplesOf mode (p .decoder) (octetsIn piece)
+  front-is : take (2 * played p piece .answer .count) (played p piece .left) ≡ samplesRun (p .decoder) (marked mode (octetsIn piece))
   front-is =
       let h = play-heard (p .decoder) piece (p .samples) z in
       let n = octets-length piece (h .read) in
       let l : length (samplesOf mode (p .decoder) (octetsIn piece)) ≡ 2 * readCall piece .count =
       samples-length mode (p .decoder) (octetsIn piece) ∙ ap (λ (k : ℕ). 2 * k) n in
       rw (play-done (p .decoder) piece (p .samples) (h .read) (h .room) (h .sound)) (take-at _ _ (2 * readCall piece .count) l)
+      ∙ samples-run mode (p .decoder) (octetsIn piece)
 
 pub samples-one-run : (p : Player) (pieces : List (List ℕ)) → AllPlayed p pieces → heard p pieces ≡ samplesRun (p .decoder) (allTold pieces)
 unfolding AllPlayed heard allTold samplesRun
@@ -112,7 +77,7 @@ samples-one-run p [] a = refl
 samples-one-run p (piece ∷ rest) a =
     ap₂ (λ (x y : List ℤ). x ++ y) (front-is p piece (a .0))
     (samples-one-run (onward p piece) rest (a .1) ∙ ap (λ (d : Decoder). samplesRun d (allTold rest)) (next-is p piece (a .0)))
-    ∙ sym (samples-join (readCall piece .mode) (p .decoder) (octetsIn piece) (allTold rest))
+    ∙ sym (samples-join (p .decoder) (marked (readCall piece .mode) (octetsIn piece)) (allTold rest))
 
 pub decoder-one-run : (p : Player) (pieces : List (List ℕ)) → AllPlayed p pieces
     → after p pieces .decoder ≡ decoderRun (p .decoder) (allTold pieces)
@@ -121,4 +86,4 @@ decoder-one-run p [] a = refl
 decoder-one-run p (piece ∷ rest) a =
     decoder-one-run (onward p piece) rest (a .1)
     ∙ ap (λ (d : Decoder). decoderRun d (allTold rest)) (next-is p piece (a .0))
-    ∙ sym (decoder-join (readCall piece .mode) (p .decoder) (octetsIn piece) (allTold rest))
+    ∙ sym (decoder-join (p .decoder) (marked (readCall piece .mode) (octetsIn piece)) (allTold rest))
