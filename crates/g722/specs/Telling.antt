@@ -13,11 +13,11 @@ use Rattle.g722.specs.Band.{slide, sums, filtep, predic, parrec, recons,
 use Rattle.g722.specs.Band.{lowAfter, highAfter}
 use Rattle.g722.specs.Mirror.{lowt, hight, accumc, accumd}
 use Rattle.g722.specs.Records.{resetBand, resetCoder, resetDecoder}
-use Rattle.g722.specs.Coding.{coderStep, misfit, codeCall}
-use Rattle.g722.specs.Decoding.{rlOf, rhOf, decoderStep, decodeCall}
+use Rattle.g722.specs.Coding.{octetOf, coderStep, misfit, codeCall}
+use Rattle.g722.specs.Decoding.{rlOf, rhOf, firstOf, secondOf, decoderStep, decodeCall}
 use Rattle.g722.specs.Cue.{unfilled, putCall, takeCall}
 use Rattle.g722.specs.Opened.{meaning}
-use Rattle.g722.specs.Case.{Case, _gives_, Hold, all-hold, these, truths, heard, codes, decodes, moves}
+use Rattle.g722.specs.Case.{Case, _gives_, Hold, all-hold, these, truths, sent, heard, codes, decodes, moves}
 use Rattle.g722.specs.declared.Zeros.{Zeros}
 use Rattle.g722.specs.declared.Poles.{Poles}
 use Rattle.g722.specs.declared.Band.{Band}
@@ -137,6 +137,19 @@ zeros = replicate 12 (pos 0)
 abbrev outputs : List ℤ → List ℤ → List ℤ
 outputs rl rh = accumc rl rh ∷ accumd rl rh ∷ []
 
+-- a run of two pairs, and what stands after its first pair, or octet
+abbrev fourSamples : List ℤ
+fourSamples = pos 900 ∷ neg 700 ∷ neg 500 ∷ pos 300 ∷ []
+
+abbrev zeros4 : List ℤ
+zeros4 = replicate 4 (pos 0)
+
+abbrev afterPair : Coder
+afterPair = coderStep resetCoder (pos 900) (neg 700)
+
+abbrev afterOctet : Decoder
+afterOctet = decoderStep 1 resetDecoder 0x04
+
 -- ---- the cases
 
 -- a product rounds down, its one overflow is 32767, sizes are not negations, and the limits hold at both ends
@@ -251,6 +264,19 @@ stepping =
 pub stepping-hold : Hold stepping
 unfolding stepping meaning
 stepping-hold = all-hold stepping refl
+
+-- two pairs and two octets in one call: each from the record after the one before it
+pub running : List Case
+running =
+    (codeCall resetCoder fourSamples (0 ∷ 0 ∷ []) .answer .next .past gives replicate 18 (pos 0) ++ fourSamples)
+    ∷ (sent fourSamples gives these (octetOf resetCoder (pos 900) (neg 700) ∷ octetOf afterPair (neg 500) (pos 300) ∷ []))
+    ∷ (decodeCall resetDecoder 1 (0x04 ∷ 0xA8 ∷ []) zeros4 .answer .next .past .rl gives decoderStep 1 afterOctet 0xA8 .past .rl)
+    ∷ (drop 2 (heard 1 (0x04 ∷ 0xA8 ∷ [])) gives (firstOf 1 afterOctet 0xA8 ∷ secondOf 1 afterOctet 0xA8 ∷ []))
+    ∷ []
+
+pub running-hold : Hold running
+unfolding running meaning
+running-hold = all-hold running refl
 
 -- reset is all zero but for the scale factors 32 and 8
 pub resetting : List Case
