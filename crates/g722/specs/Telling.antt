@@ -3,6 +3,7 @@
 use mathlib.Core.Path.{refl}
 use mathlib.Core.Bool.{cond}
 use mathlib.Core.List.{List, [], _∷_, _++_, map}
+use Prim.Native.Nat.{ℕ}
 use lib.IntN.{ℤ, pos, negℤ}
 use lib.ListN.{drop, take, replicate}
 use lib.Signed.{mag}
@@ -13,8 +14,8 @@ use Rattle.g722.specs.Band.{slide, sums, filtep, predic, parrec, recons,
 use Rattle.g722.specs.Band.{lowAfter, highAfter}
 use Rattle.g722.specs.Mirror.{lowt, hight, accumc, accumd}
 use Rattle.g722.specs.Records.{resetBand, resetCoder, resetDecoder}
-use Rattle.g722.specs.Coding.{octetOf, coderStep, misfit, codeCall}
-use Rattle.g722.specs.Decoding.{rlOf, rhOf, firstOf, secondOf, decoderStep, decodeCall}
+use Rattle.g722.specs.Coding.{coderStep, misfit, codeCall}
+use Rattle.g722.specs.Decoding.{rlOf, rhOf, decoderStep, decodeCall}
 use Rattle.g722.specs.Cue.{unfilled, putCall, takeCall}
 use Rattle.g722.specs.Opened.{meaning}
 use Rattle.g722.specs.Case.{Case, _gives_, Hold, all-hold, these, truths, sent, heard, codes, decodes, moves}
@@ -137,18 +138,20 @@ zeros = replicate 12 (pos 0)
 abbrev outputs : List ℤ → List ℤ → List ℤ
 outputs rl rh = accumc rl rh ∷ accumd rl rh ∷ []
 
--- a run of two pairs, and what stands after its first pair, or octet
-abbrev fourSamples : List ℤ
-fourSamples = pos 900 ∷ neg 700 ∷ neg 500 ∷ pos 300 ∷ []
+-- samples and octets to run over, and the records after their first two pairs, and octets
+abbrev sixteen : List ℤ
+sixteen =
+    pos 900 ∷ neg 700 ∷ neg 500 ∷ pos 300 ∷ pos 8000 ∷ neg 16000 ∷ pos 12345 ∷ neg 1
+    ∷ pos 16383 ∷ neg 16384 ∷ pos 5 ∷ pos 7000 ∷ neg 3000 ∷ pos 250 ∷ neg 9999 ∷ pos 4321 ∷ []
 
-abbrev zeros4 : List ℤ
-zeros4 = replicate 4 (pos 0)
+abbrev twelve : List ℕ
+twelve = 0x04 ∷ 0x20 ∷ 0x84 ∷ 0xA0 ∷ 0x04 ∷ 0xE4 ∷ 0x21 ∷ 0x9B ∷ 0x60 ∷ 0x05 ∷ 0xC8 ∷ 0x37 ∷ []
 
-abbrev afterPair : Coder
-afterPair = coderStep resetCoder (pos 900) (neg 700)
+abbrev afterTwo : Coder
+afterTwo = coderStep (coderStep resetCoder (pos 900) (neg 700)) (neg 500) (pos 300)
 
-abbrev afterOctet : Decoder
-afterOctet = decoderStep 1 resetDecoder 0x04
+abbrev heardTwo : Decoder
+heardTwo = decoderStep 1 (decoderStep 1 resetDecoder 0x04) 0x20
 
 -- ---- the cases
 
@@ -265,13 +268,19 @@ pub stepping-hold : Hold stepping
 unfolding stepping meaning
 stepping-hold = all-hold stepping refl
 
--- two pairs and two octets in one call: each from the record after the one before it
+-- a short run at either end, in each mode, as the second codec has it; and the record that a call of two pairs ends with
 pub running : List Case
 running =
-    (codeCall resetCoder fourSamples (0 ∷ 0 ∷ []) .answer .next .past gives replicate 18 (pos 0) ++ fourSamples)
-    ∷ (sent fourSamples gives these (octetOf resetCoder (pos 900) (neg 700) ∷ octetOf afterPair (neg 500) (pos 300) ∷ []))
-    ∷ (decodeCall resetDecoder 1 (0x04 ∷ 0xA8 ∷ []) zeros4 .answer .next .past .rl gives decoderStep 1 afterOctet 0xA8 .past .rl)
-    ∷ (drop 2 (heard 1 (0x04 ∷ 0xA8 ∷ [])) gives (firstOf 1 afterOctet 0xA8 ∷ secondOf 1 afterOctet 0xA8 ∷ []))
+    (sent sixteen gives these (0xDB ∷ 0x2A ∷ 0x84 ∷ 0x20 ∷ 0x85 ∷ 0x21 ∷ 0x8F ∷ 0x23 ∷ []))
+    ∷ (drop 12 (heard 1 twelve)
+    gives (pos 0 ∷ pos 210 ∷ neg 19 ∷ neg 420 ∷ pos 42 ∷ pos 720 ∷ pos 69 ∷ neg 1069 ∷ neg 1085 ∷ pos 309 ∷ pos 3799 ∷ pos 6601 ∷ []))
+    ∷ (drop 12 (heard 2 twelve)
+    gives (pos 1 ∷ pos 196 ∷ neg 20 ∷ neg 388 ∷ pos 42 ∷ pos 656 ∷ pos 67 ∷ neg 950 ∷ neg 1049 ∷ pos 151 ∷ pos 3725 ∷ pos 6856 ∷ []))
+    ∷ (drop 12 (heard 3 twelve)
+    gives (pos 1 ∷ pos 173 ∷ neg 18 ∷ neg 345 ∷ pos 38 ∷ pos 583 ∷ pos 53 ∷ neg 846 ∷ neg 901 ∷ pos 194 ∷ pos 3365 ∷ pos 6069 ∷ []))
+    ∷ (codeCall resetCoder (take 4 sixteen) (0 ∷ 0 ∷ []) .answer .next .past gives replicate 18 (pos 0) ++ take 4 sixteen)
+    ∷ (flat (codeCall resetCoder (take 4 sixteen) (0 ∷ 0 ∷ []) .answer .next .low) gives flat (afterTwo .low))
+    ∷ (decodeCall resetDecoder 1 (take 2 twelve) (replicate 4 (pos 0)) .answer .next .past .rl gives heardTwo .past .rl)
     ∷ []
 
 pub running-hold : Hold running
