@@ -14,11 +14,13 @@ module _ {A : Type 0} where
   drop-one s i d h = rw add-one (drop-cons s i d h)
 
   -- two do
-  pub drop-pair : (s : List A) (i : ℕ) (d : A) → 2 * i + 1 < length s → drop (2 * i) s ≡ getD s (2 * i) d ∷ getD s (2 * i + 1) d ∷ drop (2 * (i + 1)) s
+  pub drop-pair : (s : List A) (i : ℕ) (d : A) → 2 * i + 1 < length s
+      → drop (2 * i) s ≡ getD s (2 * i) d ∷ getD s (2 * i + 1) d ∷ drop (2 * (i + 1)) s
   drop-pair s i d h =
       let e : 2 * i + 1 + 1 ≡ 2 * (i + 1) = omega arith in
       let k : 2 * i < length s = omega arith in
-      drop-one s (2 * i) d k ∙ ap (λ (l : List A). getD s (2 * i) d ∷ l) (drop-one s (2 * i + 1) d h ∙ ap (λ (n : ℕ). getD s (2 * i + 1) d ∷ drop n s) e)
+      drop-one s (2 * i) d k
+      ∙ ap (λ (l : List A). getD s (2 * i) d ∷ l) (drop-one s (2 * i + 1) d h ∙ ap (λ (n : ℕ). getD s (2 * i + 1) d ∷ drop n s) e)
 
   -- a store at i
   pub put-one : (o rest : List A) (i : ℕ) (w : A) → i < length o → take (i + 1) (set o i w) ++ rest ≡ take i o ++ w ∷ rest
