@@ -1,3 +1,2 @@
 -- What several proofs of this crate cite.
 pub mod Sums
-pub mod Copies
