@@ -4,23 +4,23 @@ use mathlib.Core.Path.{_≡_, sym, _∙_}
 use mathlib.Core.List.{List, _++_, append-nil}
 use Prim.Native.Nat.{ℕ, zero, suc, _+_, _*_, _/_, _%_, _-_, _^_, _≤_, _<_}
 use native.Mathlib.Nat.{div-add-mod', mul-le-mul-left}
-use native.Mathlib.Numerals.{add-one}
 use native.Mathlib.Omega.{arith}
 use lib.ListN.{length, take, drop, getD, set, drop-of-length-le}
-use lib.Seq.{drop-cons, drop-drop, drop-set-lt, take-all}
+use lib.Seq.{drop-drop, drop-set-lt, take-all}
 use borrow.Author.Tests.{ne-eqb}
 use Rattle.laws.specs.Outcome.{Does}
-use Rattle.laws.specs.Turns.{put-one}
+use Rattle.laws.specs.Turns.{drop-one, put-one}
 use Rattle.g722.specs.Cue.{spelt, gathered, carrying, dataCall}
 
 -- one octet carries its bits
 pub fill-turn : (k i w : ℕ) (o from : List ℕ) → i < length o → w ≡ getD o i 0 / 2 ^ k * 2 ^ k + spelt 0 (take k (drop (k * i) from))
-    → take (i + 1) (set o i w) ++ carrying k (drop (i + 1) (set o i w)) (drop (k * (i + 1)) from) ≡ take i o ++ carrying k (drop i o) (drop (k * i) from)
+    → take (i + 1) (set o i w) ++ carrying k (drop (i + 1) (set o i w)) (drop (k * (i + 1)) from)
+    ≡ take i o ++ carrying k (drop i o) (drop (k * i) from)
 unfolding carrying
 fill-turn k i w o from h e =
     let f : k * (i + 1) ≡ k * i + k = omega arith in
     let l : i < i + 1 = omega arith in
-    rw (put-one o _ i w h, drop-set-lt (i + 1) o i w l, f, ← drop-drop k (k * i) from, add-one i, drop-cons o i 0 h, ← e)
+    rw (put-one o _ i w h, drop-set-lt (i + 1) o i w l, f, ← drop-drop k (k * i) from, drop-one o i 0 h, ← e)
 
 pub fill-end : (k i n : ℕ) (o from : List ℕ) → length o ≤ i → take i o ++ carrying k (drop i o) (drop n from) ≡ o
 unfolding carrying

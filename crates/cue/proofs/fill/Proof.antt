@@ -32,7 +32,8 @@ sub-octets c =
 
 -- the bits of octet i are there
 there : (c : tie.After-slice-known2 Inv-loop μ-loop)
-    → let l = c .before .before in let a = l .before .before .before .before .args in a .k * l .loop .i + a .k ≤ a .k * length (a .octets .now)
+    → let l = c .before .before in
+    let a = l .before .before .before .before .args in a .k * l .loop .i + a .k ≤ a .k * length (a .octets .now)
 there c = let l = c .before .before in inside (l .before .before .before .before .args .k) (l .loop .i) _ (omega arith)
 
 mul-spell : tie.Need-mul-spell Inv-loop μ-loop
@@ -46,7 +47,8 @@ add-octets c =
     let l = c .before .before .before in
     let o = getD (l .loop .octets) (l .loop .i) 0 in
     let p = l .before .power in
-    omega (arith, mod-le o (p .result), octet-fits _ (p .ensures .0) o (c .spell .result) (omega arith) (c .before .slice-known2 .given (l .loop .i) .fits) (c .spell .ensures .1))
+    let byte = c .before .slice-known2 .given (l .loop .i) .fits in
+    omega (arith, mod-le o (p .result), octet-fits _ (p .ensures .0) o (c .spell .result) (omega arith) byte (c .spell .ensures .1))
 
 loop-again : tie.Need-loop-again Inv-loop μ-loop
 loop-again c =
@@ -55,7 +57,8 @@ loop-again c =
     let o = l .loop .octets in
     let i = l .loop .i in
     let e = octet-carries (a .k) (l .before .power .ensures .0) (getD o i 0) (c .spell .result) (c .spell .ensures .0) in
-    (l .loop .inv .0, length-set o i _ ∙ l .loop .inv .1, fill-turn (a .k) i _ o (bitsOf 8 (a .bytes .now)) (omega arith) e ∙ l .loop .inv .2)
+    let v = l .loop .inv in
+    (v .0, length-set o i _ ∙ v .1, fill-turn (a .k) i _ o (bitsOf 8 (a .bytes .now)) (omega arith) e ∙ v .2)
 
 same-length : tie.Need-same-length Inv-loop μ-loop
 same-length c = c .before .loop .inv .1

@@ -28,8 +28,10 @@ loop-again c =
     let a = l .before .before .before .args in
     let b = l .loop .bytes in
     let j = l .loop .j in
-    let turn = gather-turn j (length (a .bytes .now)) _ b (bitsOf (a .k) (a .octets .now)) (omega arith) (omega arith) (c .spell .ensures .0) in
-    (l .loop .inv .0, length-set b j _ ∙ l .loop .inv .1, turn ∙ l .loop .inv .2)
+    let v = l .loop .inv in
+    let from = bitsOf (a .k) (a .octets .now) in
+    let turn = gather-turn j (length (a .bytes .now)) _ b from (omega arith) (omega arith) (c .spell .ensures .0) in
+    (v .0, length-set b j _ ∙ v .1, turn ∙ v .2)
 
 same-length : tie.Need-same-length Inv-loop μ-loop
 same-length c = c .before .loop .inv .1
@@ -38,7 +40,8 @@ returns : tie.Need-returns Inv-loop μ-loop
 returns c =
     let l = c .before in
     let a = l .before .before .before .args in
-    sym (gather-end (l .loop .j) (length (a .bytes .now)) (8 * l .loop .j) (l .loop .bytes) (bitsOf (a .k) (a .octets .now)) (omega arith) (omega arith)) ∙ l .loop .inv .2
+    let from = bitsOf (a .k) (a .octets .now) in
+    sym (gather-end (l .loop .j) (length (a .bytes .now)) (8 * l .loop .j) (l .loop .bytes) from (omega arith) (omega arith)) ∙ l .loop .inv .2
 
 pub gather-spec : {M : Type 1} → statement M
 gather-spec =
