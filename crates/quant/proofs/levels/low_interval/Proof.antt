@@ -36,7 +36,8 @@ loop-again c =
 returns : tie.Need-returns Inv-loop μ-loop
 returns c =
     let s = c .before .before in
-    rw (← toZ-ofZ (s .fits .scale)) (end (s .args .size) (c .before .loop .i) (c .if1 .taken) (toZ w16 (ofZ w16 (s .args .scale))) (c .before .loop .inv))
+    rw (← toZ-ofZ (s .fits .scale))
+    (end (s .args .size) (c .before .loop .i) (c .if1 .taken) (toZ w16 (ofZ w16 (s .args .scale))) (c .before .loop .inv))
 
 returns-2 : tie.Need-returns-2 Inv-loop μ-loop
 unfolding q6
@@ -44,7 +45,8 @@ returns-2 c =
     let b = c .before .before in
     let s = b .before .before in
     let t = rw (i32-read (s .fits .size), got32 (c .before .level) ∙ c .before .level .ensures) at (c .if2 .taken) in
-    rw (← toZ-ofZ (s .fits .scale)) (over (s .args .size) (b .before .loop .i) (b .if1 .left) (toZ w16 (ofZ w16 (s .args .scale))) t (b .before .loop .inv))
+    rw (← toZ-ofZ (s .fits .scale))
+    (over (s .args .size) (b .before .loop .i) (b .if1 .left) (toZ w16 (ofZ w16 (s .args .scale))) t (b .before .loop .inv))
 
 level-requires : tie.Need-level-requires Inv-loop μ-loop
 unfolding q6
