@@ -42,7 +42,9 @@ loop-again c =
     c .before .in-range .ensures ∙ ap inRange (back16 (getD xs i (pos 0)) (c .before .before .in-range-arg .given)) in (
       omega arith,
       l .loop .inv .1,
-      ap (λ (t : Bool). t && allInRange (drop (i + 1) xs)) (c .both .ensures ∙ ap (λ (t : Bool). ok && t) r) ∙ turn xs i ok h ∙ l .loop .inv .2,
+      ap (λ (t : Bool). t && allInRange (drop (i + 1) xs)) (c .both .ensures ∙ ap (λ (t : Bool). ok && t) r)
+          ∙ turn xs i ok h
+          ∙ l .loop .inv .2,
     )
 
 returns : tie.Need-returns Inv-loop μ-loop
