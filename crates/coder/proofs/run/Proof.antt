@@ -42,9 +42,9 @@ loop-again c =
     let sent = st .step .result in
     let two : 2 * i + 1 < length samples = omega arith in
     let inside : i < length octets = omega arith in
-    let e : sent ≡ sentOf now (getD samples (2 * i) (pos 0)) (getD samples (2 * i + 1) (pos 0)) =
-    st .step .ensures
-    ∙ λ j. sentOf now (back16 (getD samples (2 * i) (pos 0)) (a1 .step-arg .given) j) (back16 (getD samples (2 * i + 1) (pos 0)) (st .before .step-arg2 .given) j) in (
+    let x = back16 (getD samples (2 * i) (pos 0)) (a1 .step-arg .given) in
+    let y = back16 (getD samples (2 * i + 1) (pos 0)) (st .before .step-arg2 .given) in
+    let e = st .step .ensures ∙ λ j. sentOf now (x j) (y j) in (
       omega arith,
       v .1,
       length-set octets i (sent .octet) ∙ v .2,

@@ -41,7 +41,8 @@ returns c =
     let l = c .before in
     let a = l .before .before .before .args in
     let from = bitsOf (a .k) (a .octets .now) in
-    sym (gather-end (l .loop .j) (length (a .bytes .now)) (8 * l .loop .j) (l .loop .bytes) from (omega arith) (omega arith)) ∙ l .loop .inv .2
+    let j = l .loop .j in
+    sym (gather-end j (length (a .bytes .now)) (8 * j) (l .loop .bytes) from (omega arith) (omega arith)) ∙ l .loop .inv .2
 
 pub gather-spec : {M : Type 1} → statement M
 gather-spec =

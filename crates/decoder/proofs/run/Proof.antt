@@ -28,7 +28,8 @@ loop-holds : tie.Need-loop-holds Inv-loop μ-loop
 loop-holds c = (zero-le, refl, refl, refl, refl)
 
 -- the samples' bytes are few enough for an index of them
-few : (c : tie.After-struct-told2 Inv-loop μ-loop) → length (c .before .before .before .before .before .before .before .args .samples .now) * 2 < 2 ^ 63
+few : (c : tie.After-struct-told2 Inv-loop μ-loop)
+    → length (c .before .before .before .before .before .before .before .args .samples .now) * 2 < 2 ^ 63
 few c = c .before .before .before .before .before .before .before .good .1 .1 .1 .0 .1
 
 slice-set-from-second : tie.Need-slice-set-from-second Inv-loop μ-loop
@@ -53,10 +54,13 @@ loop-again c =
       omega arith,
       v .1,
       simp length-set (v .2),
-      ap (λ (t : Heard). decoderAfter mode (t .next) (drop (i + 1) octets)) (st .step .ensures) ∙ sym (record-turn mode now octets i inside) ∙ v .3,
+      ap (λ (t : Heard). decoderAfter mode (t .next) (drop (i + 1) octets)) (st .step .ensures)
+          ∙ sym (record-turn mode now octets i inside)
+          ∙ v .3,
       put-pair samples rest i _ _ two
           ∙ (λ j. take (2 * i) samples ++ first j ∷ second j ∷ rest)
-          ∙ ap (λ (t : Heard). take (2 * i) samples ++ t .first ∷ t .second ∷ samplesOf mode (t .next) (drop (i + 1) octets)) (st .step .ensures)
+          ∙ ap (λ (t : Heard). take (2 * i) samples ++ t .first ∷ t .second ∷ samplesOf mode (t .next) (drop (i + 1) octets))
+          (st .step .ensures)
           ∙ ap (λ (l : List ℤ). take (2 * i) samples ++ l) (sym (samples-turn mode now octets i inside))
           ∙ v .4,
     )
