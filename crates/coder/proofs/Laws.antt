@@ -2,15 +2,14 @@
 -- Assumes nothing.
 use mathlib.Core.Path.{_≡_, sym, ap, _∙_}
 use mathlib.Core.Bool.{true, false, cond}
-use mathlib.Core.List.{List, [], _∷_, _++_, append-nil}
+use mathlib.Core.List.{List, [], _∷_, _++_}
 use Prim.Native.Nat.{ℕ, zero, suc, _+_, _*_, _≤_, _<_}
 use native.Mathlib.Omega.{arith}
 use borrow.Author.Tests.{lt-ltb, le-ltb}
 use lib.IntN.{ℤ, pos}
 use lib.ListN.{length, take, drop, getD, drop-of-length-le}
-use lib.Seq.{take-all}
 use Rattle.laws.specs.Order.{by-test, no}
-use Rattle.laws.specs.Turns.{drop-one, drop-pair}
+use Rattle.laws.specs.Turns.{drop-one, drop-pair, put-all}
 use Rattle.g722.specs.Arithmetic.{sub}
 use Rattle.g722.specs.Band.{predic, nextBand}
 use Rattle.g722.specs.Octet.{octet}
@@ -84,7 +83,7 @@ module _ (c : Coder) (s : List ℤ) (n : ℕ) (h : length s ≤ n) where
 
   pub octets-end : (o : List ℕ) (i : ℕ) → length o ≤ i → take i o ++ octetsOf c (drop n s) ≡ o
   unfolding octetsOf
-  octets-end o i k = ap (λ (l : List ℤ). take i o ++ octetsOf c l) (drop-of-length-le s h) ∙ append-nil (take i o) ∙ take-all i o k
+  octets-end o i k = put-all o _ i k (ap (octetsOf c) (drop-of-length-le s h))
 
 -- ---- the first bad sample
 

@@ -2,13 +2,12 @@
 -- Assumes nothing.
 use mathlib.Core.Path.{_≡_, ap, _∙_}
 use mathlib.Core.Bool.{true, false}
-use mathlib.Core.List.{List, [], _∷_, _++_, append-nil}
+use mathlib.Core.List.{List, [], _∷_, _++_}
 use Prim.Native.Nat.{ℕ, _+_, _*_, _≤_, _<_}
 use borrow.Author.Tests.{lt-ltb, le-ltb, eq-eqb, ne-eqb}
 use lib.IntN.{ℤ}
 use lib.ListN.{length, take, drop, getD, drop-of-length-le}
-use lib.Seq.{take-all}
-use Rattle.laws.specs.Turns.{drop-one}
+use Rattle.laws.specs.Turns.{drop-one, put-all}
 use Rattle.g722.specs.Arithmetic.{add, limit}
 use Rattle.g722.specs.Quantise.{inForce}
 use Rattle.g722.specs.Band.{recons, nextBand}
@@ -85,10 +84,7 @@ module _ (mode : ℕ) (d : Decoder) (o : List ℕ) (i : ℕ) (h : length o ≤ i
 
   pub samples-end : (s : List ℤ) → length s ≤ 2 * i → take (2 * i) s ++ samplesOf mode d (drop i o) ≡ s
   unfolding samplesOf
-  samples-end s k =
-      ap (λ (l : List ℕ). take (2 * i) s ++ samplesOf mode d l) (drop-of-length-le o h)
-      ∙ append-nil (take (2 * i) s)
-      ∙ take-all (2 * i) s k
+  samples-end s k = put-all s _ (2 * i) k (ap (samplesOf mode d) (drop-of-length-le o h))
 
 -- ---- the call, case by case
 
