@@ -1,18 +1,13 @@
 -- `low_interval` meets its contract. The invariant: what is counted from place i on, and i, make the whole count.
 use mathlib.Core.Path.{_∙_}
-use mathlib.Core.Bool.{true, false}
-use Prim.Native.Nat.{_+_, _-_, _≤_}
+use Prim.Native.Nat.{_-_}
 use native.Mathlib.Omega.{arith}
-use lib.IntN.{pos}
-use lib.ListN.{drop}
-use lib.Signed.{ltZ}
-use borrow.Author.Needs.{needs}
-use mir.Syntax.{w16, w32}
+use mir.Syntax.{w16}
 use mir.Val.{toZ, ofZ}
-use mir.Facts.{toZ-ofZ, toZ-pos}
+use mir.Facts.{toZ-ofZ}
 use Rattle.laws.specs.Back.{got32}
 use Rattle.g722.specs.Tables.{q6}
-use Rattle.g722.specs.Quantise.{level, atOrBelow}
+use Rattle.g722.specs.Quantise.{level}
 use Rattle.tables.specs.Entries.{q6-small}
 use Rattle.quant.proofs.Laws.{as-i32, i32-read}
 use Rattle.quant.proofs.Counting.{Counted, end, on, over}
