@@ -1,4 +1,5 @@
--- A turn of a band's loop in two halves, so that the prediction is computed once: what is estimated before the difference is known, and what is adapted after it.
+-- A turn of a band's loop in two halves, so that the prediction is computed once:
+-- what is estimated before the difference is known, and what is adapted after it.
 -- Assumes nothing.
 use mathlib.Core.Path.{_≡_, refl}
 use lib.IntN.{ℤ}

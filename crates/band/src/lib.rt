@@ -36,10 +36,8 @@ pub fn filtez(z: Zeros) -> i16
     let b = z.b;
     let d = z.d;
     let mut sum: i16 = 0;
-    let mut i: usize = 0;
-    while i < 6 {
+    for i in 0..6 {
         sum = add(sum, term(b[i], d[i]));
-        i += 1;
     }
     sum
 }
@@ -120,10 +118,8 @@ fn coefficients(z: Zeros, d: i16) -> [i16; 6]
     let b = z.b;
     let past = z.d;
     let mut next = b;
-    let mut k: usize = 0;
-    while k < 6 {
+    for k in 0..6 {
         next[k] = upzero(d, b[k], past[k]);
-        k += 1;
     }
     next
 }
@@ -133,10 +129,8 @@ fn slide(past: [i16; 6], d: i16) -> [i16; 6]
     ensures { λ r. ⌜ r ≡ slide past d ⌝ }
 {
     let mut row = past;
-    let mut i: usize = 0;
-    while i < 5 {
+    for i in 0..5 {
         row[i] = past[i + 1];
-        i += 1;
     }
     row[5] = d;
     row

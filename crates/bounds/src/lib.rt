@@ -45,10 +45,8 @@ pub fn all_in_range(xs: &[i16]) -> bool
     ensures { λ r. ⌜ r ≡ allInRange (now (xs .entry)) ⌝ }
 {
     let mut ok = true;
-    let mut i: usize = 0;
-    while i < xs.len() {
+    for i in 0..xs.len() {
         ok = both(ok, in_range(xs[i]));
-        i += 1;
     }
     ok
 }

@@ -2,16 +2,14 @@
 -- Assumes nothing.
 use mathlib.Core.Path.{_≡_, sym, ap, _∙_}
 use mathlib.Core.Bool.{true, false, cond}
-use mathlib.Core.List.{List, [], _∷_, _++_, append-nil}
+use mathlib.Core.List.{List, [], _∷_, _++_}
 use Prim.Native.Nat.{ℕ, zero, suc, _+_, _*_, _≤_, _<_}
-use native.Mathlib.Numerals.{add-one}
 use native.Mathlib.Omega.{arith}
 use borrow.Author.Tests.{lt-ltb, le-ltb}
 use lib.IntN.{ℤ, pos}
 use lib.ListN.{length, take, drop, getD, drop-of-length-le}
-use lib.Seq.{drop-cons, take-all}
 use Rattle.laws.specs.Order.{by-test, no}
-use Rattle.laws.specs.Turns.{drop-pair}
+use Rattle.laws.specs.Turns.{drop-one, drop-pair, put-all}
 use Rattle.g722.specs.Arithmetic.{sub}
 use Rattle.g722.specs.Band.{predic, nextBand}
 use Rattle.g722.specs.Octet.{octet}
@@ -85,28 +83,28 @@ module _ (c : Coder) (s : List ℤ) (n : ℕ) (h : length s ≤ n) where
 
   pub octets-end : (o : List ℕ) (i : ℕ) → length o ≤ i → take i o ++ octetsOf c (drop n s) ≡ o
   unfolding octetsOf
-  octets-end o i k = ap (λ (l : List ℤ). take i o ++ octetsOf c l) (drop-of-length-le s h) ∙ append-nil (take i o) ∙ take-all i o k
+  octets-end o i k = put-all o _ i k (ap (octetsOf c) (drop-of-length-le s h))
 
 -- ---- the first bad sample
 
 module _ (s : List ℤ) (i : ℕ) (h : i < length s) where
-  bad-here : firstBad (drop i s) ≡ cond (inRange (getD s i (pos 0))) (suc (firstBad (drop (suc i) s))) zero
+  bad-here : firstBad (drop i s) ≡ cond (inRange (getD s i (pos 0))) (suc (firstBad (drop (i + 1) s))) zero
   unfolding firstBad
-  bad-here = ap firstBad (drop-cons s i (pos 0) h)
+  bad-here = ap firstBad (drop-one s i (pos 0) h)
 
   pub bad-on : inRange (getD s i (pos 0)) ≡ true → (i + 1) + firstBad (drop (i + 1) s) ≡ i + firstBad (drop i s)
   bad-on e =
-      let k : firstBad (drop i s) ≡ suc (firstBad (drop (suc i) s)) = bad-here ∙ rw e in
-      rw (add-one i) (omega arith)
+      let k : firstBad (drop i s) ≡ suc (firstBad (drop (i + 1) s)) = bad-here ∙ rw e in
+      omega arith
 
   pub bad-stop : inRange (getD s i (pos 0)) ≡ false → i ≡ i + firstBad (drop i s)
   bad-stop e =
       let k : firstBad (drop i s) ≡ zero = bad-here ∙ rw e in
       omega arith
 
-pub bad-end : (s : List ℤ) (i : ℕ) → length s ≤ i → i ≡ i + firstBad (drop i s)
+pub bad-end : (s : List ℤ) (i : ℕ) → length s ≤ i → firstBad (drop i s) ≡ zero
 unfolding firstBad
-bad-end s i k = let e : firstBad (drop i s) ≡ zero = ap firstBad (drop-of-length-le s k) in omega arith
+bad-end s i k = ap firstBad (drop-of-length-le s k)
 
 -- what the pass over all samples says of the first bad one
 pub none-bad : (s : List ℤ) → allInRange s ≡ true → length s ≤ firstBad s

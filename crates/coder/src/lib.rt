@@ -59,14 +59,12 @@ pub fn good_coder(c: Coder) -> bool
 pub fn first_bad(samples: &[i16]) -> usize
     ensures { λ r. ⌜ r ≡ firstBad (now (samples .entry)) ⌝ }
 {
-    let mut i: usize = 0;
-    while i < samples.len() {
+    for i in 0..samples.len() {
         if !in_range(samples[i]) {
             return i;
         }
-        i += 1;
     }
-    i
+    samples.len()
 }
 
 // Codes pair after pair.
@@ -75,12 +73,10 @@ fn run(c: Coder, samples: &[i16], octets: &mut [u8]) -> Coder
     ensures { λ r. ⌜ Does (runOf c (now (samples .entry))) r (now (octets .exit)) ⌝ }
 {
     let mut s = c;
-    let mut i: usize = 0;
-    while i < octets.len() {
+    for i in 0..octets.len() {
         let t = step(s, samples[2 * i], samples[2 * i + 1]);
         octets[i] = t.octet;
         s = t.next;
-        i += 1;
     }
     s
 }

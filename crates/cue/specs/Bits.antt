@@ -4,10 +4,10 @@ use mathlib.Core.Path.{_≡_, refl, sym, ap, ap₂, _∙_}
 use mathlib.Core.List.{List, [], _∷_, _++_}
 use Prim.Native.Nat.{ℕ, zero, suc, _+_, _*_, _/_, _%_, _-_, _^_, _≤_, _<_}
 use native.Mathlib.Nat.{pow-suc, mul-le-mul-right, div-eq-of-lt-le, div-div-eq-div-mul, div-one, mod-lt, div-add-mod', div-lt-iff-lt-mul}
-use native.Mathlib.Numerals.{add-one}
 use native.Mathlib.Omega.{arith}
 use lib.ListN.{length, take, drop, getD, length-append, List·getD-append}
-use lib.Seq.{getD-append-add, drop-cons}
+use lib.Seq.{getD-append-add}
+use Rattle.laws.specs.Turns.{drop-one}
 use Rattle.g722.specs.Cue.{bits, bitsOf, spelt}
 
 -- every entry is below n
@@ -59,7 +59,8 @@ bit-at zero x j h = absurd (omega arith)
 bit-at (suc k) x zero h = let e : suc k - 1 - 0 ≡ k = omega arith in rw e
 bit-at (suc k) x (suc j) h = let e : suc k - 1 - suc j ≡ k - 1 - j = omega arith in rw e (bit-at k x j (omega arith))
 
-pub bitsOf-at : (k : ℕ) (xs : List ℕ) (i j : ℕ) → i < length xs → j < k → getD (bitsOf k xs) (i * k + j) 0 ≡ getD xs i 0 / 2 ^ (k - 1 - j) % 2
+pub bitsOf-at : (k : ℕ) (xs : List ℕ) (i j : ℕ) → i < length xs → j < k
+    → getD (bitsOf k xs) (i * k + j) 0 ≡ getD xs i 0 / 2 ^ (k - 1 - j) % 2
 unfolding bitsOf
 bitsOf-at k [] i j h l = absurd (omega arith)
 bitsOf-at k (x ∷ rest) zero j h l =
@@ -80,10 +81,11 @@ module _ (k n : ℕ) (xs : List ℕ) (h : 0 < k) (l : n < k * length xs) where
 
 -- ---- what bits spell, bit by bit
 
-pub spelt-turn : (v at l : ℕ) (from : List ℕ) → 0 < l → at < length from → spelt (v * 2 + getD from at 0) (take (l - 1) (drop (at + 1) from)) ≡ spelt v (take l (drop at from))
+pub spelt-turn : (v at l : ℕ) (from : List ℕ) → 0 < l → at < length from
+    → spelt (v * 2 + getD from at 0) (take (l - 1) (drop (at + 1) from)) ≡ spelt v (take l (drop at from))
 unfolding spelt
 spelt-turn v at zero from h k = absurd (omega arith)
-spelt-turn v at (suc l) from h k = let e : suc l - 1 ≡ l = omega arith in rw (e, add-one at, drop-cons from at 0 k)
+spelt-turn v at (suc l) from h k = let e : suc l - 1 ≡ l = omega arith in rw (e, drop-one from at 0 k)
 
 -- ---- what bits spell after n: n itself stands above them
 

@@ -12,7 +12,8 @@ use borrow.Author.Tests.{eqb-true}
 use Rattle.laws.specs.Order.{by-test}
 use Rattle.g722.specs.Cue.{bits, bitsOf, spelt, gathered, carrying, givenUp, dataNumber, dataCall, putCall, takeCall}
 use Rattle.cue.specs.Fills.{passed}
-use Rattle.cue.specs.Bits.{Below, below-take, below-drop, below-bitsOf, length-bits, length-bitsOf, spelt-less, spelt-after, bits-spelt, spelt-bits}
+use Rattle.cue.specs.Bits.{Below, below-take, below-drop, below-bitsOf}
+use Rattle.cue.specs.Bits.{length-bits, length-bitsOf, spelt-less, spelt-after, bits-spelt, spelt-bits}
 
 -- ---- the bits put in are those taken out
 
@@ -44,12 +45,14 @@ bytes-back (x ∷ rest) p =
     (ap₂ _∷_ (byte-back x (p .0)) (bytes-back rest (p .1)))
 
 -- Taking out what was put in gives the data back.
-pub given-back : (mode : ℕ) (octets bytes old : List ℕ) → dataNumber mode (length octets) (length bytes) ≡ 0 → Below 256 bytes → length old ≡ length bytes
+pub given-back : (mode : ℕ) (octets bytes old : List ℕ)
+    → dataNumber mode (length octets) (length bytes) ≡ 0 → Below 256 bytes → length old ≡ length bytes
     → takeCall mode (putCall mode octets bytes .left) old .left ≡ bytes
 unfolding putCall takeCall dataCall
 given-back mode octets bytes old e p h =
     simp (e, length-carrying, h, e)
-    (rw (bits-back (givenUp mode) octets (bitsOf 8 bytes) (length-bitsOf 8 bytes ∙ passed mode _ _ e .full) (below-bitsOf 8 bytes)) (bytes-back bytes p))
+    (rw (bits-back (givenUp mode) octets (bitsOf 8 bytes) (length-bitsOf 8 bytes ∙ passed mode _ _ e .full) (below-bitsOf 8 bytes))
+    (bytes-back bytes p))
 
 -- ---- every other bit stays
 
@@ -60,7 +63,8 @@ last-only k q l h p =
     div-eq-of-lt-le (2 ^ k) (omega arith) (omega arith)
 
 -- what is known of octets without their last k bits stays known
-stays : (k : ℕ) (f : ℕ → ℕ) (octets from : List ℕ) → Below 2 from → map (λ (o : ℕ). f (o / 2 ^ k)) (carrying k octets from) ≡ map (λ (o : ℕ). f (o / 2 ^ k)) octets
+stays : (k : ℕ) (f : ℕ → ℕ) (octets from : List ℕ) → Below 2 from
+    → map (λ (o : ℕ). f (o / 2 ^ k)) (carrying k octets from) ≡ map (λ (o : ℕ). f (o / 2 ^ k)) octets
 unfolding carrying
 stays k f [] from p = refl
 stays k f (o ∷ rest) from p =
@@ -68,7 +72,8 @@ stays k f (o ∷ rest) from p =
     (stays k f rest (drop k from) (below-drop 2 k from p))
 
 -- Putting bits in changes no bit above the last k.
-pub kept : (k : ℕ) (octets from : List ℕ) → Below 2 from → map (λ (o : ℕ). o / 2 ^ k) (carrying k octets from) ≡ map (λ (o : ℕ). o / 2 ^ k) octets
+pub kept : (k : ℕ) (octets from : List ℕ) → Below 2 from
+    → map (λ (o : ℕ). o / 2 ^ k) (carrying k octets from) ≡ map (λ (o : ℕ). o / 2 ^ k) octets
 kept k = stays k (λ q. q)
 
 four : (k : ℕ) → k ≤ 2 → 2 ^ k * 2 ^ (2 - k) ≡ 4
@@ -78,15 +83,19 @@ four (suc (suc zero)) h = refl
 four (suc (suc (suc k))) h = absurd (omega arith)
 
 -- Where k is at most 2, the upper six bits stay.
-pub kept-six : (k : ℕ) (octets from : List ℕ) → k ≤ 2 → Below 2 from → map (λ (o : ℕ). o / 4) (carrying k octets from) ≡ map (λ (o : ℕ). o / 4) octets
+pub kept-six : (k : ℕ) (octets from : List ℕ) → k ≤ 2 → Below 2 from
+    → map (λ (o : ℕ). o / 4) (carrying k octets from) ≡ map (λ (o : ℕ). o / 4) octets
 kept-six k octets from h p =
-    let e : (o : ℕ) → o / 2 ^ k / 2 ^ (2 - k) ≡ o / 4 = λ o. div-div-eq-div-mul o (2 ^ k) (2 ^ (2 - k)) ∙ ap (λ (m : ℕ). o / m) (four k h) in
-    let same : (os : List ℕ) → map (λ (o : ℕ). o / 2 ^ k / 2 ^ (2 - k)) os ≡ map (λ (o : ℕ). o / 4) os = λ os i. map (λ (o : ℕ). e o i) os in
+    let e : (o : ℕ) → o / 2 ^ k / 2 ^ (2 - k) ≡ o / 4 =
+    λ o. div-div-eq-div-mul o (2 ^ k) (2 ^ (2 - k)) ∙ ap (λ (m : ℕ). o / m) (four k h) in
+    let same : (os : List ℕ) → map (λ (o : ℕ). o / 2 ^ k / 2 ^ (2 - k)) os ≡ map (λ (o : ℕ). o / 4) os =
+    λ os i. map (λ (o : ℕ). e o i) os in
     sym (same (carrying k octets from)) ∙ (stays k (λ q. q / 2 ^ (2 - k)) octets from p ∙ same octets)
 
 module _ (mode : ℕ) (octets bytes : List ℕ) where
   -- what stays if data is put in stays after every call, since a refused one leaves the octets as they were
-  after : (f : ℕ → ℕ) → (dataNumber mode (length octets) (length bytes) ≡ 0 → map f (carrying (givenUp mode) octets (bitsOf 8 bytes)) ≡ map f octets)
+  after : (f : ℕ → ℕ)
+      → (dataNumber mode (length octets) (length bytes) ≡ 0 → map f (carrying (givenUp mode) octets (bitsOf 8 bytes)) ≡ map f octets)
       → map f (putCall mode octets bytes .left) ≡ map f octets
   unfolding putCall dataCall
   after f h = by-test (eqb (dataNumber mode (length octets) (length bytes)) 0) (λ t. rw t (h (eqb-true _ _ t))) (λ t. rw t)

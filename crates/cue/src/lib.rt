@@ -47,12 +47,10 @@ fn fill(octets: &mut [u8], bytes: &[u8], k: usize)
     ensures { λ r. ⌜ now (octets .exit) ≡ carrying k (now (octets .entry)) (bitsOf 8 (now (bytes .entry))) ⌝ }
 {
     let base = power(k);
-    let mut i: usize = 0;
-    while i < octets.len() {
+    for i in 0..octets.len() {
         let old = octets[i];
         let lost = old % base;
         octets[i] = old - lost + spell(bytes, 8, k * i, k);
-        i += 1;
     }
 }
 
@@ -61,10 +59,8 @@ fn gather(octets: &[u8], bytes: &mut [u8], k: usize)
     requires { ⌜ Fills k (length (now octets)) (length (now bytes)) ⌝ }
     ensures { λ r. ⌜ now (bytes .exit) ≡ gathered (length (now (bytes .entry))) (bitsOf k (now (octets .entry))) ⌝ }
 {
-    let mut j: usize = 0;
-    while j < bytes.len() {
+    for j in 0..bytes.len() {
         bytes[j] = spell(octets, k, 8 * j, 8);
-        j += 1;
     }
 }
 

@@ -2,13 +2,12 @@
 -- Assumes nothing.
 use mathlib.Core.Path.{_≡_, ap, _∙_}
 use mathlib.Core.Bool.{true, false}
-use mathlib.Core.List.{List, [], _∷_, _++_, append-nil}
+use mathlib.Core.List.{List, [], _∷_, _++_}
 use Prim.Native.Nat.{ℕ, _+_, _*_, _≤_, _<_}
-use borrow.Author.Tests.{lt-ltb, le-ltb, eq-eqb, ne-eqb}
+use borrow.Author.Tests.{lt-ltb, le-ltb}
 use lib.IntN.{ℤ}
 use lib.ListN.{length, take, drop, getD, drop-of-length-le}
-use lib.Seq.{take-all}
-use Rattle.laws.specs.Turns.{drop-one}
+use Rattle.laws.specs.Turns.{drop-one, put-all}
 use Rattle.g722.specs.Arithmetic.{add, limit}
 use Rattle.g722.specs.Quantise.{inForce}
 use Rattle.g722.specs.Band.{recons, nextBand}
@@ -30,7 +29,8 @@ use Rattle.decoder.specs.Step.{lowHeard, highHeard, heardOf}
 
 pub band-heard : (band : Band) (heard looped : ℤ) (factors : Factors) {e : Estimates} {s q y d signal : ℤ} {f : Factors} {next : Band}
     → e ≡ estimated band → s ≡ e .s → q ≡ heard → y ≡ add s q → signal ≡ limit y → d ≡ looped → f ≡ factors → next ≡ adapted band e d f
-    → _≡_ {A = Signal} (record { signal = signal; next = next }) (record { signal = limit (recons band heard); next = nextBand band looped factors })
+    → _≡_ {A = Signal} (record { signal = signal; next = next })
+    (record { signal = limit (recons band heard); next = nextBand band looped factors })
 unfolding estimated recons
 band-heard band heard looped factors e≡ s≡ q≡ y≡ signal≡ d≡ f≡ next≡ =
     let y = y≡ ∙ λ i. add ((s≡ ∙ ap (λ (t : Estimates). t .s) e≡) i) (q≡ i) in
@@ -42,9 +42,12 @@ band-heard band heard looped factors e≡ s≡ q≡ y≡ signal≡ d≡ f≡ nex
 
 module _ (mode : ℕ) (d : Decoder) (o : ℕ) where
   pub octet-heard : {l h : Signal} {rl rh rl′ rh′ : List ℤ} {x : Joined} {first second : ℤ}
-      → l ≡ lowHeard mode (d .low) o → h ≡ highHeard (d .high) o → rl ≡ d .past .rl ++ (l .signal ∷ []) → rh ≡ d .past .rh ++ (h .signal ∷ [])
+      → l ≡ lowHeard mode (d .low) o → h ≡ highHeard (d .high) o
+      → rl ≡ d .past .rl ++ (l .signal ∷ []) → rh ≡ d .past .rh ++ (h .signal ∷ [])
       → x ≡ joinOf rl rh → first ≡ x .first → second ≡ x .second → rl′ ≡ drop 1 rl → rh′ ≡ drop 1 rh
-      → _≡_ {A = Heard} (record { first = first; second = second; next = record { low = l .next; high = h .next; past = record { rl = rl′; rh = rh′ } } }) (heardOf mode d o)
+      → _≡_ {A = Heard}
+      (record { first = first; second = second; next = record { low = l .next; high = h .next; past = record { rl = rl′; rh = rh′ } } })
+      (heardOf mode d o)
   unfolding heardOf lowHeard highHeard joinOf firstOf secondOf decoderStep rlRow rhRow
   octet-heard l≡ h≡ rl≡ rh≡ x≡ first≡ second≡ rl′≡ rh′≡ =
       let rl = rl≡ ∙ λ i. d .past .rl ++ (l≡ i .signal ∷ []) in
@@ -54,7 +57,11 @@ module _ (mode : ℕ) (d : Decoder) (o : ℕ) where
       let second = second≡ ∙ λ i. x i .second in
       let rl′ = rl′≡ ∙ ap (λ (t : List ℤ). drop 1 t) rl in
       let rh′ = rh′≡ ∙ ap (λ (t : List ℤ). drop 1 t) rh in
-      λ i. record { first = first i; second = second i; next = record { low = l≡ i .next; high = h≡ i .next; past = record { rl = rl′ i; rh = rh′ i } } }
+      λ i. record {
+        first = first i;
+        second = second i;
+        next = record { low = l≡ i .next; high = h≡ i .next; past = record { rl = rl′ i; rh = rh′ i } };
+      }
 
 -- ---- the run
 
@@ -77,7 +84,7 @@ module _ (mode : ℕ) (d : Decoder) (o : List ℕ) (i : ℕ) (h : length o ≤ i
 
   pub samples-end : (s : List ℤ) → length s ≤ 2 * i → take (2 * i) s ++ samplesOf mode d (drop i o) ≡ s
   unfolding samplesOf
-  samples-end s k = ap (λ (l : List ℕ). take (2 * i) s ++ samplesOf mode d l) (drop-of-length-le o h) ∙ append-nil (take (2 * i) s) ∙ take-all (2 * i) s k
+  samples-end s k = put-all s _ (2 * i) k (ap (samplesOf mode d) (drop-of-length-le o h))
 
 -- ---- the call, case by case
 

@@ -69,15 +69,13 @@ fn run(mode: u8, d: Decoder, octets: &[u8], samples: &mut [i16]) -> Decoder
     ensures { λ r. ⌜ Does (runOf mode d (now (octets .entry))) r (now (samples .exit)) ⌝ }
 {
     let mut s = d;
-    let mut i: usize = 0;
-    while i < octets.len() {
+    for i in 0..octets.len() {
         let t = step(mode, s, octets[i]);
         let first = t.first;
         let second = t.second;
         samples[2 * i] = first;
         samples[2 * i + 1] = second;
         s = t.next;
-        i += 1;
     }
     s
 }

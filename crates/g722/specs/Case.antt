@@ -1,4 +1,5 @@
--- How worked cases are put: what is got beside what is wanted. One test computes which cases of a table fail; one law makes of it an equation for each.
+-- How worked cases are put: what is got beside what is wanted.
+-- One test computes which cases of a table fail; one law makes of it an equation for each.
 -- Assumes nothing.
 use mathlib.Core.Path.{_≡_, refl, sym, ap, ap₂}
 use mathlib.Core.Bool.{Bool, true, false, cond, _&&_}

@@ -20,7 +20,8 @@ use Rattle.g722.specs.Tables.{h, q6, qq6, qq5, qq4, wl, q2, qq2, wh, ila
 use Rattle.g722.specs.Words.{toSix, fromFour, fromSix, fromFive, toTwo, fromTwo}
 use Rattle.g722.specs.Quantise.{level}
 use Rattle.g722.specs.Mirror.{sum, coefficient}
-use Rattle.g722.specs.Printed.{table4, lu6, ql6, ql5, ql4, weightL, hu, ql2, weightH, Row, table16, table17, table18, table19, table20, table21}
+use Rattle.g722.specs.Printed.{table4, lu6, ql6, ql5, ql4, weightL, hu, ql2, weightH}
+use Rattle.g722.specs.Printed.{Row, table16, table17, table18, table19, table20, table21}
 
 -- ---- Tables 11 and 14 are the decimals of section 3, scaled and rounded to the nearest
 
@@ -105,7 +106,8 @@ abbrev named : ℕ → List Row → Bool
 named w [] = false
 named w (r ∷ rs) = eqb w (r .word) || named w rs
 
-pub every-word : T (below 16 (λ w. named w table17) && below 64 (λ w. named w table18) && below 32 (λ w. named w table19) && below 4 (λ w. named w table21))
+pub every-word : T (below 16 (λ w. named w table17) && below 64 (λ w. named w table18)
+    && below 32 (λ w. named w table19) && below 4 (λ w. named w table21))
 unfolding table17 table18 table19 table21
 every-word = tt
 

@@ -1,4 +1,5 @@
--- The cue channel: data bytes in L6 of each octet in mode 2, in L5 and L6 in mode 3. Highest bit first, so in mode 3 the earlier bit stands in L5.
+-- The cue channel: data bytes in L6 of each octet in mode 2, in L5 and L6 in mode 3.
+-- Highest bit first, so in mode 3 the earlier bit stands in L5.
 -- Assumes nothing.
 use mathlib.Core.Bool.{Bool, cond, _||_, not}
 use mathlib.Core.List.{List, [], _∷_, _++_}

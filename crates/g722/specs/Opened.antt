@@ -13,7 +13,8 @@ use Rattle.g722.specs.Mirror.{sum, coefficient, xin, accuma, accumb, low
 use Rattle.g722.specs.Octet.{octet}
 use Rattle.g722.specs.Records.{inRange, allInRange, goodPoles, goodFactors, goodLow, goodHigh, goodCoder, goodDecoder}
 use Rattle.g722.specs.Records.{resetBand, resetCoder, resetDecoder}
-use Rattle.g722.specs.Coding.{window, ilOf, ihOf, octetOf, coderStep, octetsOf, coderAfter, firstBad, misfit, notCoded, coded, codeCall}
+use Rattle.g722.specs.Coding.{window, ilOf, ihOf, octetOf, coderStep, octetsOf, coderAfter}
+use Rattle.g722.specs.Coding.{firstBad, misfit, notCoded, coded, codeCall}
 use Rattle.g722.specs.Decoding.{rlOf, rhOf, rlRow, rhRow, firstOf, secondOf, decoderStep, samplesOf, decoderAfter}
 use Rattle.g722.specs.Decoding.{notDecoded, decoded, decodeCall}
 use Rattle.g722.specs.Cue.{bits, bitsOf, spelt, gathered, carrying, unfilled, dataNumber, dataCall, putCall, takeCall}

@@ -1,4 +1,5 @@
--- Cases of ours that tell a wrong definition, table by table. Each value was worked out by hand or by a model, and not by these definitions.
+-- Cases of ours that tell a wrong definition, table by table.
+-- Each value was worked out by hand or by a model, and not by these definitions.
 -- Assumes nothing.
 use mathlib.Core.Path.{refl}
 use mathlib.Core.Bool.{cond}
@@ -217,7 +218,8 @@ adapting =
     gives (pos 12288 ∷ neg 12288 ∷ []))
     ∷ ((uppol2 (still (pos 0) (pos 1000)) (pos 0) ∷ uppol2 (still (pos 0) (pos 1000)) (neg 1) ∷ []) gives (pos 1120 ∷ pos 864 ∷ []))
     ∷ ((uppol2 (still (pos 0) (pos 12161)) (pos 0) ∷ uppol2 (still (pos 0) (pos 12288)) (neg 1) ∷ []) gives (pos 12193 ∷ pos 12064 ∷ []))
-    ∷ ((uppol2 (parted (pos 0) (pos 1000)) (pos 0) ∷ uppol1 (parted (pos 1000) (pos 0)) (pos 0) (pos 0) ∷ []) gives (pos 1120 ∷ pos 804 ∷ []))
+    ∷ ((uppol2 (parted (pos 0) (pos 1000)) (pos 0) ∷ uppol1 (parted (pos 1000) (pos 0)) (pos 0) (pos 0) ∷ [])
+    gives (pos 1120 ∷ pos 804 ∷ []))
     ∷ ((uppol1 (still (pos 27137) (pos 0)) (neg 12288) (pos 0) ∷ uppol1 (still (pos 27136) (pos 0)) (neg 12288) (pos 0) ∷ [])
     gives (pos 27222 ∷ pos 27222 ∷ []))
     ∷ ((uppol1 (still (pos 3072) (pos 0)) (pos 12288) (pos 0) ∷ uppol1 (still (neg 3072) (pos 0)) (pos 12288) (neg 1) ∷ [])
@@ -261,7 +263,8 @@ stepping =
     ∷ (coderStep resetCoder (pos 5) (pos 6) .past gives replicate 20 (pos 0) ++ (pos 5 ∷ pos 6 ∷ []))
     ∷ (decoderStep 1 resetDecoder 0x04 .past .rl gives replicate 10 (pos 0) ++ (neg 25 ∷ []))
     ∷ (decoderStep 1 resetDecoder 0x04 .past .rh gives replicate 10 (pos 0) ++ (neg 2 ∷ []))
-    ∷ ((decoderStep 1 resetDecoder 0x04 .low .poles .r1 ∷ decoderStep 3 resetDecoder 0x04 .low .poles .r1 ∷ []) gives (neg 20 ∷ neg 20 ∷ []))
+    ∷ ((decoderStep 1 resetDecoder 0x04 .low .poles .r1 ∷ decoderStep 3 resetDecoder 0x04 .low .poles .r1 ∷ [])
+    gives (neg 20 ∷ neg 20 ∷ []))
     ∷ []
 
 pub stepping-hold : Hold stepping
@@ -315,11 +318,14 @@ bounds =
     ∷ (coderNumbers (map (λ (s : Band). coder low s (pos 0))
     (scaled (pos 22528) (pos 16384) ∷ scaled (pos 22529) (pos 16384) ∷ highWith (pos 0) (pos 12289) ∷ highWith (pos 15361) (pos 0) ∷ []))
     gives these (0 ∷ 2 ∷ 2 ∷ 2 ∷ []))
-    ∷ (coderNumbers (coder low high (neg 16384) ∷ coder low high (neg 16385) ∷ coder low high (pos 16384) ∷ []) gives these (0 ∷ 2 ∷ 2 ∷ []))
+    ∷ (coderNumbers (coder low high (neg 16384) ∷ coder low high (neg 16385) ∷ coder low high (pos 16384) ∷ [])
+    gives these (0 ∷ 2 ∷ 2 ∷ []))
     ∷ (decoderNumbers (decoder high high (pos 0) (pos 0) ∷ decoder low low (pos 0) (pos 0) ∷ []) gives these (2 ∷ 2 ∷ []))
-    ∷ (decoderNumbers (decoder (lowWith (pos 0) (pos 12289)) high (pos 0) (pos 0) ∷ decoder low (highWith (pos 0) (pos 12289)) (pos 0) (pos 0) ∷ [])
+    ∷ (decoderNumbers
+    (decoder (lowWith (pos 0) (pos 12289)) high (pos 0) (pos 0) ∷ decoder low (highWith (pos 0) (pos 12289)) (pos 0) (pos 0) ∷ [])
     gives these (2 ∷ 2 ∷ []))
-    ∷ (decoderNumbers (decoder low high (pos 16383) (neg 16384) ∷ decoder low high (pos 16384) (pos 0) ∷ decoder low high (pos 0) (neg 16385) ∷ [])
+    ∷ (decoderNumbers
+    (decoder low high (pos 16383) (neg 16384) ∷ decoder low high (pos 16384) (pos 0) ∷ decoder low high (pos 0) (neg 16385) ∷ [])
     gives these (0 ∷ 2 ∷ 2 ∷ []))
     ∷ []
 
@@ -327,7 +333,8 @@ pub bounds-hold : Hold bounds
 unfolding bounds meaning
 bounds-hold = all-hold bounds refl
 
--- refusals in their order with what was lent kept, coding 3, 2, 4 with the index, decoding 1, 3, 2; the record comes back; an accepted call's index is 0
+-- refusals in their order with what was lent kept: coding 3, 2, 4 with the index, decoding 1, 3, 2;
+-- the record comes back; an accepted call's index is 0
 pub refusals : List Case
 refusals =
     (codes (coder (lowWith (pos 0) (pos 12289)) high (pos 0)) (pos 16384 ∷ []) (7 ∷ []) gives these (3 ∷ 0 ∷ 7 ∷ []))
@@ -358,7 +365,8 @@ cueing =
     ∷ (moves (putCall 3 [] []) gives these (0 ∷ 0 ∷ []))
     ∷ (moves (takeCall 3 (0xFA ∷ 0xFB ∷ 0xF8 ∷ 0xF9 ∷ []) (9 ∷ [])) gives these (0 ∷ 0 ∷ 0xB1 ∷ []))
     ∷ (moves (takeCall 2 (0xFB ∷ replicate 6 0xFA ++ (0xFB ∷ [])) (9 ∷ [])) gives these (0 ∷ 0 ∷ 0x81 ∷ []))
-    ∷ (truths (unfilled 2 8000 1000 ∷ unfilled 2 8008 1001 ∷ unfilled 3 8000 2000 ∷ unfilled 3 8004 2001 ∷ []) gives these (0 ∷ 1 ∷ 0 ∷ 1 ∷ []))
+    ∷ (truths (unfilled 2 8000 1000 ∷ unfilled 2 8008 1001 ∷ unfilled 3 8000 2000 ∷ unfilled 3 8004 2001 ∷ [])
+    gives these (0 ∷ 1 ∷ 0 ∷ 1 ∷ []))
     ∷ []
 
 pub cueing-hold : Hold cueing

@@ -1,6 +1,7 @@
 -- What several crates' definitions and proofs are built from.
 pub mod Outcome
 pub mod One
+pub mod Both
 pub mod Every
 pub mod Rising
 pub mod Order
@@ -9,3 +10,4 @@ pub mod Clamp
 pub mod Size
 pub mod Back
 pub mod Turns
+pub mod Filled

@@ -1,4 +1,5 @@
--- ℤ for omega: z is `up z` less `dn z`, two numbers that omega takes as unknowns, so that orders, tests, sums and shifts on ℤ are linear facts on them.
+-- ℤ for omega: z is `up z` less `dn z`, two numbers that omega takes as unknowns.
+-- So orders, tests, sums and shifts on ℤ are linear facts on them.
 -- `omega (zarith, add-read a b)` proves orders, tests and equations on ℤ; the sums that stand in them are listed beside the ruleset.
 -- Assumes nothing.
 use mathlib.Core.Path.{_≡_, refl, sym, ap, subst}
@@ -115,6 +116,7 @@ size-within n (negsuc m) l h = omega (arith, le-read l)
 quot : (a m : ℕ) → 0 < m → (a / m * m ≤ a) × (a < a / m * m + m)
 quot a m h = let e = div-add-mod' a m in let l = mod-lt a h in (omega arith, omega arith)
 
-pub shr-read : (z : ℤ) (m : ℕ) → 0 < m → ((up (shrZ z m) * m ≤ up z) × (up z < up (shrZ z m) * m + m)) × ((dn z ≤ dn (shrZ z m) * m) × (dn (shrZ z m) * m < dn z + m))
+pub shr-read : (z : ℤ) (m : ℕ) → 0 < m
+    → ((up (shrZ z m) * m ≤ up z) × (up z < up (shrZ z m) * m + m)) × ((dn z ≤ dn (shrZ z m) * m) × (dn (shrZ z m) * m < dn z + m))
 shr-read (pos a) m h = let q = quot a m h in ((q .0, q .1), (omega arith, omega arith))
 shr-read (negsuc a) m h = let q = quot a m h in let e = suc-mul (a / m) m in ((omega arith, omega arith), (omega arith, omega arith))

@@ -3,7 +3,7 @@
 use mathlib.Core.Path.{_≡_, ap}
 use Prim.Native.Nat.{ℕ, suc, _+_, _*_}
 use native.Mathlib.Omega.{arith}
-use lib.IntN.{ℤ, pos, negsuc, negℤ, _+ℤ_, _*ℤ_, pos-*ℤ-negsuc, negsuc-*ℤ-pos}
+use lib.IntN.{ℤ, pos, negsuc, _+ℤ_, _*ℤ_, pos-*ℤ-negsuc, negsuc-*ℤ-pos}
 use Rattle.laws.specs.Order.{up, dn, up-neg, dn-neg, add-read, same}
 
 times-read : (a c : ℤ) → up (a *ℤ c) + up a * dn c + dn a * up c ≡ dn (a *ℤ c) + up a * up c + dn a * dn c

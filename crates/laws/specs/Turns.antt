@@ -1,12 +1,12 @@
 -- Turns of loops over lists: what comes off the front of the rest, and what a store moves from what is to come to what is done.
 -- Assumes nothing.
-use Prim.Native.Nat.{ℕ, _+_, _*_, _<_}
+use Prim.Native.Nat.{ℕ, _+_, _*_, _≤_, _<_}
 use mathlib.Core.Path.{_≡_, ap, _∙_}
-use mathlib.Core.List.{List, _∷_, _++_, append-assoc}
+use mathlib.Core.List.{List, [], _∷_, _++_, append-assoc, append-nil}
 use native.Mathlib.Numerals.{add-one}
 use native.Mathlib.Omega.{arith}
 use lib.ListN.{length, take, drop, getD, set, length-set}
-use lib.Seq.{drop-cons, take-suc-set}
+use lib.Seq.{drop-cons, take-suc-set, take-all}
 
 module _ {A : Type 0} where
   -- one element comes off the front
@@ -14,15 +14,21 @@ module _ {A : Type 0} where
   drop-one s i d h = rw add-one (drop-cons s i d h)
 
   -- two do
-  pub drop-pair : (s : List A) (i : ℕ) (d : A) → 2 * i + 1 < length s → drop (2 * i) s ≡ getD s (2 * i) d ∷ getD s (2 * i + 1) d ∷ drop (2 * (i + 1)) s
+  pub drop-pair : (s : List A) (i : ℕ) (d : A) → 2 * i + 1 < length s
+      → drop (2 * i) s ≡ getD s (2 * i) d ∷ getD s (2 * i + 1) d ∷ drop (2 * (i + 1)) s
   drop-pair s i d h =
       let e : 2 * i + 1 + 1 ≡ 2 * (i + 1) = omega arith in
       let k : 2 * i < length s = omega arith in
-      drop-one s (2 * i) d k ∙ ap (λ (l : List A). getD s (2 * i) d ∷ l) (drop-one s (2 * i + 1) d h ∙ ap (λ (n : ℕ). getD s (2 * i + 1) d ∷ drop n s) e)
+      drop-one s (2 * i) d k
+      ∙ ap (λ (l : List A). getD s (2 * i) d ∷ l) (drop-one s (2 * i + 1) d h ∙ ap (λ (n : ℕ). getD s (2 * i + 1) d ∷ drop n s) e)
 
   -- a store at i
   pub put-one : (o rest : List A) (i : ℕ) (w : A) → i < length o → take (i + 1) (set o i w) ++ rest ≡ take i o ++ w ∷ rest
   put-one o rest i w h = rw (add-one, take-suc-set o i w h, append-assoc)
+
+  -- where nothing is to come, all is done
+  pub put-all : (o rest : List A) (i : ℕ) → length o ≤ i → rest ≡ [] → take i o ++ rest ≡ o
+  put-all o rest i h e = rw (e, append-nil, take-all i o h)
 
   -- two stores, at 2 i and the next
   pub put-pair : (o rest : List A) (i : ℕ) (v w : A) → 2 * i + 1 < length o

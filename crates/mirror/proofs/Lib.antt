@@ -1,4 +1,3 @@
--- What several proofs of this crate cite.
+-- What the proofs here share, and the table of answers.
 pub mod Sums
-pub mod Copies
 pub mod Unique

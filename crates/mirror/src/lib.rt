@@ -63,11 +63,9 @@ pub fn split(x: &[i16; 24]) -> Halves
     let h = H;
     let mut xa: i32 = 0;
     let mut xb: i32 = 0;
-    let mut i: usize = 0;
-    while i < 12 {
+    for i in 0..12 {
         xa = tap(xa, h[2 * i], wide(x[23 - 2 * i]));
         xb = tap(xb, h[2 * i + 1], wide(x[23 - (2 * i + 1)]));
-        i += 1;
     }
     Halves {
         xl: limit((xa + xb) >> 13),
@@ -82,13 +80,11 @@ pub fn join(rl: &[i16; 12], rh: &[i16; 12]) -> Joined
     let h = H;
     let mut first: i32 = 0;
     let mut second: i32 = 0;
-    let mut j: usize = 0;
-    while j < 12 {
+    for j in 0..12 {
         let low = wide(rl[11 - j]);
         let high = wide(rh[11 - j]);
         first = tap(first, h[2 * j], low - high);
         second = tap(second, h[2 * j + 1], low + high);
-        j += 1;
     }
     Joined {
         first: limit(first >> 12),
@@ -101,11 +97,9 @@ pub fn window(past: [i16; 22], x: i16, y: i16) -> [i16; 24]
     ensures { λ r. ⌜ r ≡ past ++ (x ∷ y ∷ []) ⌝ }
 {
     let mut w: [i16; 24] = [0; 24];
-    let mut i: usize = 0;
-    while i < 22 {
+    for i in 0..22 {
         let v = past[i];
         w[i] = v;
-        i += 1;
     }
     w[22] = x;
     w[23] = y;
@@ -117,11 +111,9 @@ pub fn kept(w: [i16; 24]) -> [i16; 22]
     ensures { λ r. ⌜ r ≡ drop 2 w ⌝ }
 {
     let mut past: [i16; 22] = [0; 22];
-    let mut i: usize = 0;
-    while i < 22 {
+    for i in 0..22 {
         let v = w[i + 2];
         past[i] = v;
-        i += 1;
     }
     past
 }
@@ -131,11 +123,9 @@ pub fn row(past: [i16; 11], x: i16) -> [i16; 12]
     ensures { λ r. ⌜ r ≡ past ++ (x ∷ []) ⌝ }
 {
     let mut w: [i16; 12] = [0; 12];
-    let mut i: usize = 0;
-    while i < 11 {
+    for i in 0..11 {
         let v = past[i];
         w[i] = v;
-        i += 1;
     }
     w[11] = x;
     w
@@ -146,11 +136,9 @@ pub fn row_kept(w: [i16; 12]) -> [i16; 11]
     ensures { λ r. ⌜ r ≡ drop 1 w ⌝ }
 {
     let mut past: [i16; 11] = [0; 11];
-    let mut i: usize = 0;
-    while i < 11 {
+    for i in 0..11 {
         let v = w[i + 1];
         past[i] = v;
-        i += 1;
     }
     past
 }

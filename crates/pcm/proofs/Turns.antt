@@ -23,7 +23,8 @@ load-next i (high ∷ []) s h k = absurd (omega arith)
 load-next i (high ∷ low ∷ b) [] h k = absurd (omega arith)
 load-next zero (high ∷ low ∷ b) (x ∷ s) h k = refl
 load-next (suc i) (high ∷ low ∷ b) (x ∷ s) h k =
-    rw (low-more i, two-more (suc i), two-more i) (ap (λ (l : List ℤ). sampleOf high low ∷ l) (rw (two-more i) at (load-next i b s (omega arith) (omega arith))))
+    rw (low-more i, two-more (suc i), two-more i)
+    (ap (λ (l : List ℤ). sampleOf high low ∷ l) (rw (two-more i) at (load-next i b s (omega arith) (omega arith))))
 
 store-next : (i : ℕ) (s : List ℤ) (b : List ℕ) → i < length s → 2 * i + 1 < length b
     → set (set (stored i s b .left) (2 * i) (highOf (getD s i (pos 0)))) (2 * i + 1) (lowOf (getD s i (pos 0))) ≡ stored (suc i) s b .left
@@ -33,7 +34,8 @@ store-next i (x ∷ s) [] h k = absurd (omega arith)
 store-next i (x ∷ s) (high ∷ []) h k = absurd (omega arith)
 store-next zero (x ∷ s) (high ∷ low ∷ b) h k = refl
 store-next (suc i) (x ∷ s) (high ∷ low ∷ b) h k =
-    rw (low-more i, two-more (suc i), two-more i) (ap (λ (l : List ℕ). highOf x ∷ lowOf x ∷ l) (rw (two-more i) at (store-next i s b (omega arith) (omega arith))))
+    rw (low-more i, two-more (suc i), two-more i)
+    (ap (λ (l : List ℕ). highOf x ∷ lowOf x ∷ l) (rw (two-more i) at (store-next i s b (omega arith) (omega arith))))
 
 -- the same of what lies in memory and what the code's calls gave
 module _ (i : ℕ) (b : List ℕ) (s : List ℤ) (h : 2 * i + 1 < length b) (k : i < length s) where

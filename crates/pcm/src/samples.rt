@@ -55,10 +55,8 @@ pub fn load(bytes: &[u8], samples: &mut [i16]) -> usize
     ensures { λ r. ⌜ Does (loadCall (now (bytes .entry)) (now (samples .entry))) r (now (samples .exit)) ⌝ }
 {
     let n = lesser(bytes.len() / 2, samples.len());
-    let mut i = 0;
-    while i < n {
+    for i in 0..n {
         samples[i] = sample(bytes[2 * i], bytes[2 * i + 1]);
-        i += 1;
     }
     n
 }
@@ -68,14 +66,12 @@ pub fn store(samples: &[i16], bytes: &mut [u8]) -> usize
     ensures { λ r. ⌜ Does (storeCall (now (samples .entry)) (now (bytes .entry))) r (now (bytes .exit)) ⌝ }
 {
     let n = lesser(samples.len(), bytes.len() / 2);
-    let mut i = 0;
-    while i < n {
+    for i in 0..n {
         let x = samples[i];
         let first = high(x);
         let second = low(x);
         bytes[2 * i] = first;
         bytes[2 * i + 1] = second;
-        i += 1;
     }
     n
 }

@@ -5,16 +5,15 @@ use mathlib.Core.Bool.{true, false}
 use mathlib.Core.List.{List, [], _∷_, map}
 use Prim.Native.Nat.{ℕ, zero, suc, _+_, _*_, _≤_, _<_}
 use native.Mathlib.Omega.{arith}
-use native.Mathlib.Numerals.{add-one}
 use lib.Dec.{lit<}
 use lib.IntN.{ℤ, pos, negsuc, _*ℤ_}
 use lib.ListN.{getD, drop, drop-of-length-le, List·getD-map}
-use lib.Seq.{drop-cons}
 use lib.Signed.{ltZ, leZ, shrZ, _≤ℤ_, leZ-yes}
 use borrow.Author.Tests.{ltb-true, ltb-false, le-leb, lt-leb}
 use Rattle.laws.specs.Clamp.{clamp, clamp-mono}
 use Rattle.laws.specs.Order.{zarith, no, shr-read, up-neg}
 use Rattle.laws.specs.Rising.{Rising}
+use Rattle.laws.specs.Turns.{drop-one}
 use Rattle.g722.specs.Arithmetic.{neg, mul}
 use Rattle.g722.specs.Tables.{q6}
 use Rattle.g722.specs.Quantise.{level, atOrBelow}
@@ -82,11 +81,12 @@ end s i h scale k = omega (arith, none-past s i h scale)
 
 -- at place i: a level at or below is counted and the count goes on; at one above it ends
 module _ (s i : ℕ) (h : i < 29) where
-  split : (scale : ℤ) → drop i (levels scale) ≡ levelAt scale i ∷ drop (suc i) (levels scale)
+  split : (scale : ℤ) → drop i (levels scale) ≡ levelAt scale i ∷ drop (i + 1) (levels scale)
   unfolding q6
-  split scale = drop-cons (levels scale) i (level scale 0) h ∙ rw (List·getD-map (level scale) (drop 1 q6) i 0)
+  split scale = drop-one (levels scale) i (level scale 0) h ∙ rw (List·getD-map (level scale) (drop 1 q6) i 0)
 
-  one-more : (scale : ℤ) → ltZ (pos s) (levelAt scale i) ≡ false → atOrBelow s (drop i (levels scale)) ≡ suc (atOrBelow s (drop (suc i) (levels scale)))
+  one-more : (scale : ℤ) → ltZ (pos s) (levelAt scale i) ≡ false
+      → atOrBelow s (drop i (levels scale)) ≡ suc (atOrBelow s (drop (i + 1) (levels scale)))
   one-more scale e = rw (split scale) (counted s _ _ e)
 
   none-left : (scale : ℤ) → ltZ (pos s) (levelAt scale i) ≡ true → atOrBelow s (drop i (levels scale)) ≡ 0
@@ -94,7 +94,7 @@ module _ (s i : ℕ) (h : i < 29) where
   none-left (negsuc n) e = absurd (omega (zarith, low n (getD (drop 1 q6) i 0)))
 
   pub on : (scale : ℤ) → ltZ (pos s) (levelAt scale i) ≡ false → Counted s scale i → Counted s scale (i + 1)
-  on scale e k = rw (add-one i) (h, omega (arith, one-more scale e))
+  on scale e k = (omega arith, omega (arith, one-more scale e))
 
   pub over : (scale : ℤ) → ltZ (pos s) (levelAt scale i) ≡ true → Counted s scale i → i + 1 ≡ 1 + atOrBelow s (levels scale)
   over scale e k = omega (arith, none-left scale e)

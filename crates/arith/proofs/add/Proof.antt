@@ -16,7 +16,14 @@ returns : tie.Need-returns
 unfolding add
 returns c =
     let s = c .before .before .before in
-    cc (got16 (c .clamp), toZ-ofZ (add-clamp (c .before)), got32 (c .before .wide2), got32 (c .before .before .wide), toZ-ofZ (s .fits .a), toZ-ofZ (s .fits .b))
+    cc (
+      got16 (c .clamp),
+      toZ-ofZ (add-clamp (c .before)),
+      got32 (c .before .wide2),
+      got32 (c .before .before .wide),
+      toZ-ofZ (s .fits .a),
+      toZ-ofZ (s .fits .b),
+    )
 
 pub add-spec : {M : Type 1} → statement M
 add-spec = tie.close (tie.spec (λ c κs. tt) (λ c κs. tt) add-clamp (λ c κs. tt) returns)

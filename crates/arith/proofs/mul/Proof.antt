@@ -17,7 +17,15 @@ unfolding mul
 returns c =
     let s = c .before .before .before in
     let m = mul-clamp (c .before) in
-    cc (got16 (c .clamp), toZ-ofZ (shr-fits 32768 m), toZ-ofZ m, got32 (c .before .wide2), got32 (c .before .before .wide), toZ-ofZ (s .fits .a), toZ-ofZ (s .fits .b))
+    cc (
+      got16 (c .clamp),
+      toZ-ofZ (shr-fits 32768 m),
+      toZ-ofZ m,
+      got32 (c .before .wide2),
+      got32 (c .before .before .wide),
+      toZ-ofZ (s .fits .a),
+      toZ-ofZ (s .fits .b),
+    )
 
 pub mul-spec : {M : Type 1} → statement M
 mul-spec = tie.close (tie.spec (λ c κs. tt) (λ c κs. tt) mul-clamp (λ c κs. tt) returns)

@@ -16,7 +16,14 @@ returns : tie.Need-returns
 unfolding sub
 returns c =
     let s = c .before .before .before in
-    cc (got16 (c .clamp), toZ-ofZ (sub-clamp (c .before)), got32 (c .before .wide2), got32 (c .before .before .wide), toZ-ofZ (s .fits .a), toZ-ofZ (s .fits .b))
+    cc (
+      got16 (c .clamp),
+      toZ-ofZ (sub-clamp (c .before)),
+      got32 (c .before .wide2),
+      got32 (c .before .before .wide),
+      toZ-ofZ (s .fits .a),
+      toZ-ofZ (s .fits .b),
+    )
 
 pub sub-spec : {M : Type 1} → statement M
 sub-spec = tie.close (tie.spec (λ c κs. tt) (λ c κs. tt) sub-clamp (λ c κs. tt) returns)

@@ -1,6 +1,6 @@
 -- `band::coefficients` meets its contract. The invariant: each coefficient passed has its next value.
 use mathlib.Core.Path.{_≡_, refl, _∙_}
-use mathlib.Core.List.{zipWith}
+use mathlib.Core.List.{[], zipWith, append-nil}
 use Prim.Native.Nat.{_≤_, _-_}
 use native.Mathlib.Omega.{arith}
 use borrow.Author.Needs.{needs}
@@ -10,13 +10,14 @@ use mir.Syntax.{w16}
 use mir.Val.{toZ, ofZ}
 use mir.Facts.{toZ-ofZ}
 use Rattle.laws.specs.Back.{back16, got16}
+use Rattle.laws.specs.Filled.{Filled, fill, filled}
 use Rattle.g722.specs.Band.{upzero}
-use Rattle.band.proofs.Laws.{upTo, store, stored, zip-length, zip-at}
+use Rattle.band.proofs.Laws.{zip-length, zip-at}
 use Rattle.band.proofs.coefficients.Statement.{statement}
 use Rattle.band.proofs.coefficients.Tie as tie
 
 abbrev Inv-loop : tie.InvT-loop
-Inv-loop d b past next₀ k₀ next k = (k ≤ 6) × (next ≡ upTo k (zipWith (upzero (toZ w16 d)) b past) b)
+Inv-loop d b past next₀ k₀ next k = (k ≤ 6) × Filled (zipWith (upzero (toZ w16 d)) b past) 6 next k
 
 abbrev μ-loop : tie.MeasureT-loop
 μ-loop d b past next₀ k₀ next k = 6 - k
@@ -37,7 +38,7 @@ loop-again c =
     (simp (back16 (getD (z .b) k (pos 0)) (c₂ .upzero-arg .given), back16 (getD (z .d) k (pos 0)) (c₁ .upzero-arg2 .given)))
     in
     let long = zip-length f (z .b) (z .d) (omega arith) in
-    (omega arith, store k (zipWith f (z .b) (z .d)) (z .b) (omega arith) (omega arith) (l .loop .inv .1) e)
+    (omega arith, fill (zipWith f (z .b) (z .d)) 6 (l .loop .inv .1) (pos 0) (omega arith) (omega arith) e)
 
 returns : tie.Need-returns Inv-loop μ-loop
 returns c =
@@ -48,7 +49,7 @@ returns c =
     let d6 : length (z .d) ≡ 6 = search needs in
     let f = upzero (toZ w16 (ofZ w16 (s .args .d))) in
     let long = zip-length f (z .b) (z .d) (omega arith) in
-    rw (toZ-ofZ (s .fits .d)) at (stored (l .loop .k) (zipWith f (z .b) (z .d)) (z .b) (omega arith) (omega arith) (l .loop .inv .1))
+    rw (toZ-ofZ (s .fits .d), append-nil) at (filled (zipWith f (z .b) (z .d)) 6 (l .loop .inv .1) [] (omega arith) (omega arith))
 
 pub coefficients-spec : {M : Type 1} → statement M
 coefficients-spec =
@@ -56,7 +57,7 @@ coefficients-spec =
     (tie.spec
     Inv-loop
     μ-loop
-    (λ c. (omega arith, refl))
+    (λ c. (omega arith, record { long = search needs; is = refl }))
     (λ c. omega arith)
     (λ c. omega arith)
     (λ c. omega arith)

@@ -9,7 +9,11 @@ use Rattle.band.proofs.estimate.Tie as tie
 returns : tie.Need-returns
 unfolding predic estimated
 returns c =
-    rw (got16 (c .add) ∙ c .add .ensures, got16 (c .before .filtep) ∙ c .before .filtep .ensures, got16 (c .before .before .filtez) ∙ c .before .before .filtez .ensures)
+    rw (
+      got16 (c .add) ∙ c .add .ensures,
+      got16 (c .before .filtep) ∙ c .before .filtep .ensures,
+      got16 (c .before .before .filtez) ∙ c .before .before .filtez .ensures,
+    )
 
 pub estimate-spec : {M : Type 1} → statement M
 estimate-spec = tie.close (tie.spec (λ c κs. tt) (λ c κs. tt) (λ c κs. tt) returns)

@@ -16,7 +16,12 @@ returns c =
     let c6 = c5 .before in
     let s = c6 .before in
     rw (got16 (c .add) ∙ c .add .ensures, got16 (c1 .term2) ∙ c1 .term2 .ensures, got16 (c4 .term) ∙ c4 .term .ensures)
-    (simp (back16 (s .args .s .a1) (c6 .struct-told .given .0 .1), back16 (s .args .s .r1) (c6 .struct-told .given .1 .1 .0 .1), back16 (s .args .s .a2) (c6 .struct-told .given .1 .0 .1), back16 (s .args .s .r2) (c6 .struct-told .given .1 .1 .1 .0 .1)))
+    (simp (
+      back16 (s .args .s .a1) (c6 .struct-told .given .0 .1),
+      back16 (s .args .s .r1) (c6 .struct-told .given .1 .1 .0 .1),
+      back16 (s .args .s .a2) (c6 .struct-told .given .1 .0 .1),
+      back16 (s .args .s .r2) (c6 .struct-told .given .1 .1 .1 .0 .1),
+    ))
 
 pub filtep-spec : {M : Type 1} → statement M
 filtep-spec = tie.close (tie.spec (λ c κs. tt) (λ c κs. tt) (λ c κs. tt) returns)

@@ -38,7 +38,8 @@ loop-again c =
     rw (got16 (c .add) ∙ c .add .ensures, got16 (c₁ .term) ∙ c₁ .term .ensures, zip-at term (z .b) (z .d) i (omega arith) (omega arith))
     (simp (back16 (getD (z .b) i (pos 0)) (c₃ .term-arg .given), back16 (getD (z .d) i (pos 0)) (c₂ .term-arg2 .given)))
     in
-    (omega arith, added (toZ w16 (l .loop .sum)) i (zipWith term (z .b) (z .d)) (omega (arith, zip-length term (z .b) (z .d) (omega arith))) e (l .loop .inv .1))
+    let long = zip-length term (z .b) (z .d) (omega arith) in
+    (omega arith, added (toZ w16 (l .loop .sum)) i (zipWith term (z .b) (z .d)) (omega arith) e (l .loop .inv .1))
 
 returns : tie.Need-returns Inv-loop μ-loop
 unfolding filtez

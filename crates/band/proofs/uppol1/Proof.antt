@@ -19,8 +19,23 @@ returns c =
     let c8 = c7 .before in
     let c9 = c8 .before in
     let s = c9 .before in
-    rw (got16 (c .clamp) ∙ c .clamp .ensures, got16 (c1 .sub2) ∙ c1 .sub2 .ensures, got32 (c2 .wide) ∙ c2 .wide .ensures, got16 (c3 .sub) ∙ c3 .sub .ensures, got16 (c4 .add) ∙ c4 .add .ensures, got16 (c5 .mul) ∙ c5 .mul .ensures, got16 (c7 .pick) ∙ c7 .pick .ensures, c8 .same-sign .ensures)
-    (simp (back16 (s .args .s .a1) (c9 .struct-told .given .0 .1), back16 (s .args .s .p1) (c9 .struct-told .given .1 .1 .1 .1 .0 .1), toZ-ofZ (s .fits .apl2), toZ-ofZ (s .fits .p)))
+    rw (
+      got16 (c .clamp) ∙ c .clamp .ensures,
+      got16 (c1 .sub2) ∙ c1 .sub2 .ensures,
+      got32 (c2 .wide) ∙ c2 .wide .ensures,
+      got16 (c3 .sub) ∙ c3 .sub .ensures,
+      got16 (c4 .add) ∙ c4 .add .ensures,
+      got16 (c5 .mul) ∙ c5 .mul .ensures,
+      got16 (c7 .pick) ∙ c7 .pick .ensures,
+      c8 .same-sign .ensures,
+    )
+    (simp (
+      back16 (s .args .s .a1) (c9 .struct-told .given .0 .1),
+      back16 (s .args .s .p1) (c9 .struct-told .given .1 .1 .1 .1 .0 .1),
+      toZ-ofZ (s .fits .apl2),
+      toZ-ofZ (s .fits .p),
+    ))
 
 pub uppol1-spec : {M : Type 1} → statement M
-uppol1-spec = tie.close (tie.spec (λ c κs. tt) (λ c κs. tt) (λ c κs. tt) (λ c κs. tt) (λ c κs. tt) (λ c κs. tt) (λ c κs. tt) (λ c κs. tt) returns)
+uppol1-spec =
+    tie.close (tie.spec (λ c κs. tt) (λ c κs. tt) (λ c κs. tt) (λ c κs. tt) (λ c κs. tt) (λ c κs. tt) (λ c κs. tt) (λ c κs. tt) returns)

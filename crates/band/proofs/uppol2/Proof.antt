@@ -19,8 +19,22 @@ returns c =
     let c8 = c7 .before in
     let c9 = c8 .before in
     let s = c9 .before in
-    rw (got16 (c .clamp) ∙ c .clamp .ensures, got32 (c1 .wide) ∙ c1 .wide .ensures, got16 (c2 .add2) ∙ c2 .add2 .ensures, got16 (c3 .mul) ∙ c3 .mul .ensures, got16 (c5 .add) ∙ c5 .add .ensures, got16 (c6 .pick) ∙ c6 .pick .ensures, c7 .same-sign .ensures, got16 (c9 .turned) ∙ c9 .turned .ensures)
-    (simp (back16 (s .args .s .a2) (c8 .struct-told .given .1 .0 .1), back16 (s .args .s .p2) (c8 .struct-told .given .1 .1 .1 .1 .1 .0 .1), toZ-ofZ (s .fits .p)))
+    rw (
+      got16 (c .clamp) ∙ c .clamp .ensures,
+      got32 (c1 .wide) ∙ c1 .wide .ensures,
+      got16 (c2 .add2) ∙ c2 .add2 .ensures,
+      got16 (c3 .mul) ∙ c3 .mul .ensures,
+      got16 (c5 .add) ∙ c5 .add .ensures,
+      got16 (c6 .pick) ∙ c6 .pick .ensures,
+      c7 .same-sign .ensures,
+      got16 (c9 .turned) ∙ c9 .turned .ensures,
+    )
+    (simp (
+      back16 (s .args .s .a2) (c8 .struct-told .given .1 .0 .1),
+      back16 (s .args .s .p2) (c8 .struct-told .given .1 .1 .1 .1 .1 .0 .1),
+      toZ-ofZ (s .fits .p),
+    ))
 
 pub uppol2-spec : {M : Type 1} → statement M
-uppol2-spec = tie.close (tie.spec (λ c κs. tt) (λ c κs. tt) (λ c κs. tt) (λ c κs. tt) (λ c κs. tt) (λ c κs. tt) (λ c κs. tt) (λ c κs. tt) returns)
+uppol2-spec =
+    tie.close (tie.spec (λ c κs. tt) (λ c κs. tt) (λ c κs. tt) (λ c κs. tt) (λ c κs. tt) (λ c κs. tt) (λ c κs. tt) (λ c κs. tt) returns)

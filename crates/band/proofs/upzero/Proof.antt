@@ -15,7 +15,14 @@ returns c =
     let c4 = c3 .before in
     let c5 = c4 .before in
     let s = c5 .before in
-    rw (got16 (c .add) ∙ c .add .ensures, got16 (c1 .mul) ∙ c1 .mul .ensures, got16 (c2 .pick) ∙ c2 .pick .ensures, got16 (c3 .sub) ∙ c3 .sub .ensures, c4 .same-sign .ensures, got16 (c5 .gain) ∙ c5 .gain .ensures)
+    rw (
+      got16 (c .add) ∙ c .add .ensures,
+      got16 (c1 .mul) ∙ c1 .mul .ensures,
+      got16 (c2 .pick) ∙ c2 .pick .ensures,
+      got16 (c3 .sub) ∙ c3 .sub .ensures,
+      c4 .same-sign .ensures,
+      got16 (c5 .gain) ∙ c5 .gain .ensures,
+    )
     (simp (toZ-ofZ (s .fits .d), toZ-ofZ (s .fits .bi), toZ-ofZ (s .fits .di)))
 
 pub upzero-spec : {M : Type 1} → statement M

@@ -2,46 +2,34 @@
 use mathlib.Core.Path.{_≡_, refl, sym, ap, _∙_}
 use mathlib.Core.Bool.{Bool, _&&_, and-assoc, and-true}
 use Prim.Native.Nat.{ℕ, _+_, _-_, _≤_, _<_}
-use native.Mathlib.Numerals.{add-one}
 use native.Mathlib.Omega.{arith}
 use mathlib.Core.List.{List}
 use lib.IntN.{ℤ, pos}
 use lib.ListN.{length, drop, getD, drop-of-length-le}
-use lib.Seq.{drop-cons}
 use Rattle.laws.specs.Back.{back16}
+use Rattle.laws.specs.Turns.{drop-one}
 use Rattle.g722.specs.Records.{inRange, allInRange}
 use Rattle.bounds.proofs.all_in_range.Statement.{statement}
 use Rattle.bounds.proofs.all_in_range.Tie as tie
 
 abbrev Inv-loop : tie.InvT-loop
-Inv-loop xs ok₀ i₀ ok i = (i ≤ length xs) × ((ok && allInRange (drop i xs)) ≡ allInRange xs)
+Inv-loop xs ok₀ i₀ i-end ok i = (i ≤ i-end) × (i-end ≡ length xs) × ((ok && allInRange (drop i xs)) ≡ allInRange xs)
 
 abbrev μ-loop : tie.MeasureT-loop
-μ-loop xs ok₀ i₀ ok i = length xs - i
+μ-loop xs ok₀ i₀ i-end ok i = i-end - i
 
 -- one sample moves from the rest to what was found
-turn : (xs : List ℤ) (i : ℕ) (ok : Bool) → i < length xs → ((ok && inRange (getD xs i (pos 0))) && allInRange (drop (i + 1) xs)) ≡ (ok && allInRange (drop i xs))
+turn : (xs : List ℤ) (i : ℕ) (ok : Bool) → i < length xs
+    → ((ok && inRange (getD xs i (pos 0))) && allInRange (drop (i + 1) xs)) ≡ (ok && allInRange (drop i xs))
 unfolding allInRange
-turn xs i ok h = and-assoc ok _ _ ∙ ap (λ (t : Bool). ok && t) (rw (add-one, drop-cons xs i (pos 0) h))
+turn xs i ok h = and-assoc ok _ _ ∙ ap (λ (l : List ℤ). ok && allInRange l) (sym (drop-one xs i (pos 0) h))
 
 end : (xs : List ℤ) (i : ℕ) (ok : Bool) → length xs ≤ i → ok ≡ (ok && allInRange (drop i xs))
 unfolding allInRange
 end xs i ok h = rw (drop-of-length-le xs h) (sym (and-true ok))
 
 loop-holds : tie.Need-loop-holds Inv-loop μ-loop
-loop-holds c = (omega arith, refl)
-
-mul-in-range : tie.Need-mul-in-range Inv-loop μ-loop
-mul-in-range c = omega arith
-
-shared-slice-copy-out-in-range : tie.Need-shared-slice-copy-out-in-range Inv-loop μ-loop
-shared-slice-copy-out-in-range c = omega arith
-
-add-i : tie.Need-add-i Inv-loop μ-loop
-add-i c = omega arith
-
-loop-less : tie.Need-loop-less Inv-loop μ-loop
-loop-less c = omega arith
+loop-holds c = (omega arith, refl, refl)
 
 loop-again : tie.Need-loop-again Inv-loop μ-loop
 loop-again c =
@@ -51,14 +39,19 @@ loop-again c =
     let ok = l .loop .ok in
     let h : i < length xs = omega arith in
     let r : c .before .in-range .result ≡ inRange (getD xs i (pos 0)) =
-    c .before .in-range .ensures ∙ ap inRange (back16 (getD xs i (pos 0)) (c .before .before .in-range-arg .given)) in
-    (omega arith, ap (λ (t : Bool). t && allInRange (drop (i + 1) xs)) (c .both .ensures ∙ ap (λ (t : Bool). ok && t) r) ∙ turn xs i ok h ∙ l .loop .inv .1)
+    c .before .in-range .ensures ∙ ap inRange (back16 (getD xs i (pos 0)) (c .before .before .in-range-arg .given)) in (
+      omega arith,
+      l .loop .inv .1,
+      ap (λ (t : Bool). t && allInRange (drop (i + 1) xs)) (c .both .ensures ∙ ap (λ (t : Bool). ok && t) r)
+          ∙ turn xs i ok h
+          ∙ l .loop .inv .2,
+    )
 
 returns : tie.Need-returns Inv-loop μ-loop
 returns c =
     let xs = c .before .before .args .xs .now in
     let h : length xs ≤ c .before .loop .i = omega arith in
-    end xs (c .before .loop .i) (c .before .loop .ok) h ∙ c .before .loop .inv .1
+    end xs (c .before .loop .i) (c .before .loop .ok) h ∙ c .before .loop .inv .2
 
 pub all-in-range-spec : {M : Type 1} → statement M
 all-in-range-spec =
@@ -67,11 +60,11 @@ all-in-range-spec =
     Inv-loop
     μ-loop
     loop-holds
-    mul-in-range
-    shared-slice-copy-out-in-range
+    (λ c. omega arith)
+    (λ c. omega arith)
     (λ c κs. tt)
     (λ c κs. tt)
-    add-i
-    loop-less
+    (λ c. omega arith)
+    (λ c. omega arith)
     loop-again
     returns)

@@ -19,7 +19,8 @@ unfolding notCoded
 returns c = let t = c .before in does (call-misfit _ _ _ (sym (t .before .misfit .ensures) ∙ t .if1 .taken)) (c .answer .ensures) refl
 
 -- past the first test
-fits : (e : tie.Else1) → let args = e .before .before .before .args in misfit (length (args .samples .now)) (length (args .octets .now)) ≡ false
+fits : (e : tie.Else1)
+    → let args = e .before .before .before .args in misfit (length (args .samples .now)) (length (args .octets .now)) ≡ false
 fits e = sym (e .before .misfit .ensures) ∙ e .if1 .left
 
 returns-2 : tie.Need-returns-2

@@ -16,17 +16,18 @@ use Rattle.coder.proofs.run.Statement.{statement}
 use Rattle.coder.proofs.run.Tie as tie
 
 abbrev Inv-loop : tie.InvT-loop
-Inv-loop samples octets₀ s₀ i₀ octets s i =
-    (i ≤ length octets₀)
+Inv-loop samples octets₀ s₀ i₀ i-end octets s i =
+    (i ≤ i-end)
+    × (i-end ≡ length octets₀)
     × (length octets ≡ length octets₀)
     × (coderAfter s (drop (2 * i) samples) ≡ coderAfter s₀ samples)
     × (take i octets ++ octetsOf s (drop (2 * i) samples) ≡ octetsOf s₀ samples)
 
 abbrev μ-loop : tie.MeasureT-loop
-μ-loop samples octets₀ s₀ i₀ octets s i = length octets₀ - i
+μ-loop samples octets₀ s₀ i₀ i-end octets s i = i-end - i
 
 loop-holds : tie.Need-loop-holds Inv-loop μ-loop
-loop-holds c = (zero-le, refl, refl, refl)
+loop-holds c = (zero-le, refl, refl, refl, refl)
 
 loop-again : tie.Need-loop-again Inv-loop μ-loop
 loop-again c =
@@ -41,20 +42,21 @@ loop-again c =
     let sent = st .step .result in
     let two : 2 * i + 1 < length samples = omega arith in
     let inside : i < length octets = omega arith in
-    let e : sent ≡ sentOf now (getD samples (2 * i) (pos 0)) (getD samples (2 * i + 1) (pos 0)) =
-    st .step .ensures
-    ∙ λ j. sentOf now (back16 (getD samples (2 * i) (pos 0)) (a1 .step-arg .given) j) (back16 (getD samples (2 * i + 1) (pos 0)) (st .before .step-arg2 .given) j) in (
+    let x = back16 (getD samples (2 * i) (pos 0)) (a1 .step-arg .given) in
+    let y = back16 (getD samples (2 * i + 1) (pos 0)) (st .before .step-arg2 .given) in
+    let e = st .step .ensures ∙ λ j. sentOf now (x j) (y j) in (
       omega arith,
-      length-set octets i (sent .octet) ∙ v .1,
-      ap (λ (t : Sent). coderAfter (t .next) (drop (2 * (i + 1)) samples)) e ∙ sym (record-turn now samples i two) ∙ v .2,
+      v .1,
+      length-set octets i (sent .octet) ∙ v .2,
+      ap (λ (t : Sent). coderAfter (t .next) (drop (2 * (i + 1)) samples)) e ∙ sym (record-turn now samples i two) ∙ v .3,
       put-one octets (octetsOf (sent .next) (drop (2 * (i + 1)) samples)) i (sent .octet) inside
           ∙ ap (λ (t : Sent). take i octets ++ t .octet ∷ octetsOf (t .next) (drop (2 * (i + 1)) samples)) e
           ∙ ap (λ (l : List ℕ). take i octets ++ l) (sym (octets-turn now samples i two))
-          ∙ v .3,
+          ∙ v .4,
     )
 
 same-length : tie.Need-same-length Inv-loop μ-loop
-same-length c = c .before .loop .inv .1
+same-length c = c .before .loop .inv .2
 
 returns : tie.Need-returns Inv-loop μ-loop
 returns c =
@@ -64,8 +66,8 @@ returns c =
     let done : length samples ≤ 2 * lp .loop .i = omega arith in
     let full : length (lp .loop .octets) ≤ lp .loop .i = omega arith in
     record {
-      answer = sym (record-end (lp .loop .s) samples (2 * lp .loop .i) done) ∙ v .2;
-      left = sym (octets-end (lp .loop .s) samples (2 * lp .loop .i) done (lp .loop .octets) (lp .loop .i) full) ∙ v .3;
+      answer = sym (record-end (lp .loop .s) samples (2 * lp .loop .i) done) ∙ v .3;
+      left = sym (octets-end (lp .loop .s) samples (2 * lp .loop .i) done (lp .loop .octets) (lp .loop .i) full) ∙ v .4;
     }
 
 pub run-spec : {M : Type 1} → statement M

@@ -11,7 +11,9 @@ sub-below-2 : tie.Need-sub-below-2
 sub-below-2 c = let s = c .before in omega (arith, mod-lt (s .args .n) (s .pre .0))
 
 shared-slice-read-result : tie.Need-shared-slice-read-result
-shared-slice-read-result c = let s = c .before .before .before in byte-of (s .args .k) (s .args .n) (s .args .xs .now) (s .pre .0) (s .pre .2)
+shared-slice-read-result c =
+    let s = c .before .before .before in
+    byte-of (s .args .k) (s .args .n) (s .args .xs .now) (s .pre .0) (s .pre .2)
 
 div-result-2 : tie.Need-div-result-2
 div-result-2 c = c .before .power .ensures .1

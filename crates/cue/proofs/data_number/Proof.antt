@@ -39,7 +39,9 @@ returns-3 : tie.Need-returns-3
 returns-3 c = too-long _ _ _ (omega arith) (omega arith) (omega arith)
 
 returns-4 : tie.Need-returns-4
-returns-4 c = unlike _ _ _ (omega arith) (omega arith) (omega arith) (let a = c .before .before .before .before .args in omega (arith, few (a .mode) (a .octets) (a .bytes) (omega arith)))
+returns-4 c =
+    let a = c .before .before .before .before .args in
+    unlike _ _ _ (omega arith) (omega arith) (omega arith) (omega (arith, few (a .mode) (a .octets) (a .bytes) (omega arith)))
 
 mul-if5-2 : tie.Need-mul-if5-2
 mul-if5-2 c = let a = c .before .before .before .before .args in omega (arith, few (a .mode) (a .octets) (a .bytes) (omega arith))

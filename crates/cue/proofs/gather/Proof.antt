@@ -11,15 +11,16 @@ use Rattle.cue.proofs.gather.Statement.{statement}
 use Rattle.cue.proofs.gather.Tie as tie
 
 abbrev Inv-loop : tie.InvT-loop
-Inv-loop octets bytes₀ k j₀ bytes j =
-    (length bytes ≡ length bytes₀)
+Inv-loop octets bytes₀ k j₀ j-end bytes j =
+    (j-end ≡ length bytes₀)
+    × (length bytes ≡ length bytes₀)
     × (take j bytes ++ gathered (length bytes₀ - j) (drop (8 * j) (bitsOf k octets)) ≡ gathered (length bytes₀) (bitsOf k octets))
 
 abbrev μ-loop : tie.MeasureT-loop
-μ-loop octets bytes₀ k j₀ bytes j = length bytes₀ - j
+μ-loop octets bytes₀ k j₀ j-end bytes j = j-end - j
 
 loop-holds : tie.Need-loop-holds Inv-loop μ-loop
-loop-holds c = (refl, rw (sub-zero (length (c .before .before .args .bytes .now))))
+loop-holds c = (refl, refl, rw (sub-zero (length (c .before .before .args .bytes .now))))
 
 loop-again : tie.Need-loop-again Inv-loop μ-loop
 loop-again c =
@@ -27,16 +28,21 @@ loop-again c =
     let a = l .before .before .before .args in
     let b = l .loop .bytes in
     let j = l .loop .j in
-    (length-set b j _ ∙ l .loop .inv .0, gather-turn j (length (a .bytes .now)) _ b (bitsOf (a .k) (a .octets .now)) (omega arith) (omega arith) (c .spell .ensures .0) ∙ l .loop .inv .1)
+    let v = l .loop .inv in
+    let from = bitsOf (a .k) (a .octets .now) in
+    let turn = gather-turn j (length (a .bytes .now)) _ b from (omega arith) (omega arith) (c .spell .ensures .0) in
+    (v .0, length-set b j _ ∙ v .1, turn ∙ v .2)
 
 same-length : tie.Need-same-length Inv-loop μ-loop
-same-length c = c .before .loop .inv .0
+same-length c = c .before .loop .inv .1
 
 returns : tie.Need-returns Inv-loop μ-loop
 returns c =
     let l = c .before in
     let a = l .before .before .before .args in
-    sym (gather-end (l .loop .j) (length (a .bytes .now)) (8 * l .loop .j) (l .loop .bytes) (bitsOf (a .k) (a .octets .now)) (omega arith) (omega arith)) ∙ l .loop .inv .1
+    let from = bitsOf (a .k) (a .octets .now) in
+    let j = l .loop .j in
+    sym (gather-end j (length (a .bytes .now)) (8 * j) (l .loop .bytes) from (omega arith) (omega arith)) ∙ l .loop .inv .2
 
 pub gather-spec : {M : Type 1} → statement M
 gather-spec =

@@ -30,10 +30,14 @@ loop-holds c =
     rw (e, add-zero) (omega arith, omega arith, refl)
 
 mul-value : tie.Need-mul-value Inv-loop μ-loop
-mul-value c = let l = c .before in omega (arith, room (l .loop .value) (l .before .before .args .w - l .loop .left) (l .loop .inv .1) (omega arith))
+mul-value c =
+    let l = c .before in
+    omega (arith, room (l .loop .value) (l .before .before .args .w - l .loop .left) (l .loop .inv .1) (omega arith))
 
 add-value : tie.Need-add-value Inv-loop μ-loop
-add-value c = let l = c .before .before in omega (arith, room (l .loop .value) (l .before .before .args .w - l .loop .left) (l .loop .inv .1) (omega arith))
+add-value c =
+    let l = c .before .before in
+    omega (arith, room (l .loop .value) (l .before .before .args .w - l .loop .left) (l .loop .inv .1) (omega arith))
 
 loop-again : tie.Need-loop-again Inv-loop μ-loop
 loop-again c =

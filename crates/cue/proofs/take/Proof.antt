@@ -9,7 +9,8 @@ use Rattle.cue.proofs.Laws.{done, refused}
 use Rattle.cue.proofs.take.Statement.{statement}
 use Rattle.cue.proofs.take.Tie as tie
 
-fills : (c : tie.Then1) → let a = c .before .before .before .before .args in Fills (givenUp (a .mode)) (length (a .octets .now)) (length (a .bytes .now))
+fills : (c : tie.Then1)
+    → let a = c .before .before .before .before .args in Fills (givenUp (a .mode)) (length (a .octets .now)) (length (a .bytes .now))
 fills c = passed _ _ _ (sym (c .before .data-number .ensures) ∙ c .if1 .taken)
 
 sub-gather : tie.Need-sub-gather

@@ -26,14 +26,16 @@ returns-2 c =
     does (call-misfit _ _ _ _ (omega arith) (sym (t .before .misfit .ensures) ∙ t .if2 .taken)) (c .answer2 .ensures) refl
 
 -- past the second test
-fits : (e : tie.Else2) → let args = e .before .before .before .before .args in misfit (length (args .samples .now)) (length (args .octets .now)) ≡ false
+fits : (e : tie.Else2)
+    → let args = e .before .before .before .before .args in misfit (length (args .samples .now)) (length (args .octets .now)) ≡ false
 fits e = sym (e .before .misfit .ensures) ∙ e .if2 .left
 
 returns-3 : tie.Need-returns-3
 unfolding notDecoded
 returns-3 c =
     let t = c .before in
-    does (call-broken _ _ _ _ (omega arith) (fits (t .before .before)) (sym (t .before .good-decoder .ensures) ∙ not-true _ (t .if3 .taken)))
+    let broken = sym (t .before .good-decoder .ensures) ∙ not-true _ (t .if3 .taken) in
+    does (call-broken _ _ _ _ (omega arith) (fits (t .before .before)) broken)
     (c .answer3 .ensures) refl
 
 returns-4 : tie.Need-returns-4

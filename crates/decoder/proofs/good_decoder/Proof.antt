@@ -5,7 +5,9 @@ use Rattle.decoder.proofs.good_decoder.Statement.{statement}
 use Rattle.decoder.proofs.good_decoder.Tie as tie
 
 slice-aggregate-all-in-range-2 : tie.Need-slice-aggregate-all-in-range-2
-slice-aggregate-all-in-range-2 c = let g = c .before .before .before .before .before .before .before .before .before .before .before .before .good .0 .1 .1 .1 .1 in search (needs, g)
+slice-aggregate-all-in-range-2 c =
+    let g = c .before .before .before .before .before .before .before .before .before .before .before .before .good .0 .1 .1 .1 .1 in
+    search (needs, g)
 
 returns : tie.Need-returns
 unfolding goodDecoder
@@ -15,9 +17,27 @@ returns c =
     let rl = bands .before in
     let b = rl .before .before in
     let h = b .before in
-    rw (c .both3 .ensures, rh .all-in-range2 .ensures, bands .both2 .ensures, rl .all-in-range .ensures, b .both .ensures, h .good-high .ensures, h .before .good-low .ensures)
+    rw (
+      c .both3 .ensures,
+      rh .all-in-range2 .ensures,
+      bands .both2 .ensures,
+      rl .all-in-range .ensures,
+      b .both .ensures,
+      h .good-high .ensures,
+      h .before .good-low .ensures,
+    )
 
 pub good-decoder-spec : {M : Type 1} → statement M
 good-decoder-spec =
     tie.close
-    (tie.spec (λ c κs. tt) (λ c κs. tt) (λ c κs. tt) (λ c. search needs) (λ c κs. tt) (λ c κs. tt) slice-aggregate-all-in-range-2 (λ c κs. tt) (λ c κs. tt) returns)
+    (tie.spec
+    (λ c κs. tt)
+    (λ c κs. tt)
+    (λ c κs. tt)
+    (λ c. search needs)
+    (λ c κs. tt)
+    (λ c κs. tt)
+    slice-aggregate-all-in-range-2
+    (λ c κs. tt)
+    (λ c κs. tt)
+    returns)

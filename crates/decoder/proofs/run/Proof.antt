@@ -14,20 +14,22 @@ use Rattle.decoder.proofs.run.Statement.{statement}
 use Rattle.decoder.proofs.run.Tie as tie
 
 abbrev Inv-loop : tie.InvT-loop
-Inv-loop mode octets samples₀ s₀ i₀ samples s i =
-    (i ≤ length octets)
+Inv-loop mode octets samples₀ s₀ i₀ i-end samples s i =
+    (i ≤ i-end)
+    × (i-end ≡ length octets)
     × (length samples ≡ length samples₀)
     × (decoderAfter mode s (drop i octets) ≡ decoderAfter mode s₀ octets)
     × (take (2 * i) samples ++ samplesOf mode s (drop i octets) ≡ samplesOf mode s₀ octets)
 
 abbrev μ-loop : tie.MeasureT-loop
-μ-loop mode octets samples₀ s₀ i₀ samples s i = length octets - i
+μ-loop mode octets samples₀ s₀ i₀ i-end samples s i = i-end - i
 
 loop-holds : tie.Need-loop-holds Inv-loop μ-loop
-loop-holds c = (zero-le, refl, refl, refl)
+loop-holds c = (zero-le, refl, refl, refl, refl)
 
 -- the samples' bytes are few enough for an index of them
-few : (c : tie.After-struct-told2 Inv-loop μ-loop) → length (c .before .before .before .before .before .before .before .args .samples .now) * 2 < 2 ^ 63
+few : (c : tie.After-struct-told2 Inv-loop μ-loop)
+    → length (c .before .before .before .before .before .before .before .args .samples .now) * 2 < 2 ^ 63
 few c = c .before .before .before .before .before .before .before .good .1 .1 .1 .0 .1
 
 slice-set-from-second : tie.Need-slice-set-from-second Inv-loop μ-loop
@@ -50,17 +52,21 @@ loop-again c =
     let two : 2 * i + 1 < length samples = omega arith in
     let rest = samplesOf mode (heard .next) (drop (i + 1) octets) in (
       omega arith,
-      simp length-set (v .1),
-      ap (λ (t : Heard). decoderAfter mode (t .next) (drop (i + 1) octets)) (st .step .ensures) ∙ sym (record-turn mode now octets i inside) ∙ v .2,
+      v .1,
+      simp length-set (v .2),
+      ap (λ (t : Heard). decoderAfter mode (t .next) (drop (i + 1) octets)) (st .step .ensures)
+          ∙ sym (record-turn mode now octets i inside)
+          ∙ v .3,
       put-pair samples rest i _ _ two
           ∙ (λ j. take (2 * i) samples ++ first j ∷ second j ∷ rest)
-          ∙ ap (λ (t : Heard). take (2 * i) samples ++ t .first ∷ t .second ∷ samplesOf mode (t .next) (drop (i + 1) octets)) (st .step .ensures)
+          ∙ ap (λ (t : Heard). take (2 * i) samples ++ t .first ∷ t .second ∷ samplesOf mode (t .next) (drop (i + 1) octets))
+          (st .step .ensures)
           ∙ ap (λ (l : List ℤ). take (2 * i) samples ++ l) (sym (samples-turn mode now octets i inside))
-          ∙ v .3,
+          ∙ v .4,
     )
 
 same-length : tie.Need-same-length Inv-loop μ-loop
-same-length c = c .before .loop .inv .1
+same-length c = c .before .loop .inv .2
 
 returns : tie.Need-returns Inv-loop μ-loop
 returns c =
@@ -70,8 +76,8 @@ returns c =
     let done : length octets ≤ lp .loop .i = omega arith in
     let full : length (lp .loop .samples) ≤ 2 * lp .loop .i = omega arith in
     record {
-      answer = sym (record-end _ (lp .loop .s) octets (lp .loop .i) done) ∙ v .2;
-      left = sym (samples-end _ (lp .loop .s) octets (lp .loop .i) done (lp .loop .samples) full) ∙ v .3;
+      answer = sym (record-end _ (lp .loop .s) octets (lp .loop .i) done) ∙ v .3;
+      left = sym (samples-end _ (lp .loop .s) octets (lp .loop .i) done (lp .loop .samples) full) ∙ v .4;
     }
 
 pub run-spec : {M : Type 1} → statement M

@@ -12,7 +12,8 @@ use Rattle.laws.specs.Size.{fits-abs, shr-fits}
 use Rattle.g722.specs.Tables.{h}
 use Rattle.g722.specs.Mirror.{coefficient, xd, xs, accumc, accumd}
 use Rattle.mirror.specs.Filters.{joinOf}
-use Rattle.mirror.proofs.Sums.{Read, is-read, plus, plus-fits, less, less-fits, Summed, none, room, more, whole, even, odd, even-weight, odd-weight}
+use Rattle.mirror.proofs.Sums.{Read, is-read, plus, plus-fits, less, less-fits}
+use Rattle.mirror.proofs.Sums.{Summed, none, room, more, whole, even, odd, even-weight, odd-weight}
 use Rattle.mirror.proofs.join.Statement.{statement}
 use Rattle.mirror.proofs.join.Tie as tie
 
@@ -51,10 +52,11 @@ unfolding coefficient h xd xs
 loop-again c =
     let d = c .before in
     let t = d .before in
-    let p = t .before .before in (
+    let p = t .before .before in
+    let v = loop p .loop .inv in (
       omega arith,
-      more (loop p .loop .inv .1) (back16 _ (t .before .tap-arg .given)) (less (low p) (high p) (omega arith)) (got32 (t .tap) ∙ t .tap .ensures),
-      more (loop p .loop .inv .2) (back16 _ (d .tap-arg2 .given)) (plus (low p) (high p) (omega arith)) (got32 (c .tap2) ∙ c .tap2 .ensures),
+      more (v .1) (back16 _ (t .before .tap-arg .given)) (less (low p) (high p) (omega arith)) (got32 (t .tap) ∙ t .tap .ensures),
+      more (v .2) (back16 _ (d .tap-arg2 .given)) (plus (low p) (high p) (omega arith)) (got32 (c .tap2) ∙ c .tap2 .ensures),
     )
 
 returns : tie.Need-returns Inv-loop μ-loop
@@ -65,7 +67,14 @@ returns c =
     let b = whole (l .inv .2) (omega arith) odd-weight in
     let f : SFits w32 (toZ w32 (l .first)) = rw (a .is) (fits-abs (omega arith)) in
     let g : SFits w32 (toZ w32 (l .second)) = rw (b .is) (fits-abs (omega arith)) in
-    rw (got16 (c .limit2) ∙ c .limit2 .ensures, got16 (c .before .limit) ∙ c .before .limit .ensures, toZ-ofZ (shr-fits 4096 f), toZ-ofZ (shr-fits 4096 g), a .is, b .is)
+    rw (
+      got16 (c .limit2) ∙ c .limit2 .ensures,
+      got16 (c .before .limit) ∙ c .before .limit .ensures,
+      toZ-ofZ (shr-fits 4096 f),
+      toZ-ofZ (shr-fits 4096 g),
+      a .is,
+      b .is,
+    )
 
 pub join-spec : {M : Type 1} → statement M
 join-spec =

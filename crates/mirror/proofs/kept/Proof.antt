@@ -4,13 +4,13 @@ use mathlib.Core.List.{[], append-nil}
 use Prim.Native.Nat.{_+_, _-_, _≤_}
 use native.Mathlib.Omega.{arith}
 use borrow.Author.Needs.{needs}
-use lib.ListN.{length}
-use Rattle.mirror.proofs.Copies.{Copied, copy, copied}
+use lib.ListN.{length, drop, length-drop}
+use Rattle.laws.specs.Filled.{Filled, filled, copy}
 use Rattle.mirror.proofs.kept.Statement.{statement}
 use Rattle.mirror.proofs.kept.Tie as tie
 
 abbrev Inv-loop : tie.InvT-loop
-Inv-loop w past₀ i₀ past i = (i ≤ 22) × Copied 2 w 22 past i
+Inv-loop w past₀ i₀ past i = (i ≤ 22) × Filled (drop 2 w) 22 past i
 
 abbrev μ-loop : tie.MeasureT-loop
 μ-loop w past₀ i₀ past i = 22 - i
@@ -18,15 +18,17 @@ abbrev μ-loop : tie.MeasureT-loop
 loop-again : tie.Need-loop-again Inv-loop μ-loop
 loop-again c =
     let b = c .before .before in
-    let l : length (b .before .args .t1) ≡ 24 = search needs in
-    (omega arith, copy 2 _ 22 (b .loop .inv .1) (b .loop .i + 2) (omega arith) (omega arith) (omega arith) (c .v .given))
+    let w = b .before .args .t1 in
+    let l : length w ≡ 24 = search needs in
+    (omega arith, copy 2 w 22 (b .loop .inv .1) (b .loop .i + 2) (omega arith) (omega arith) (omega arith) (c .v .given))
 
 returns : tie.Need-returns Inv-loop μ-loop
 returns c =
     let b = c .before in
-    let l : length (b .before .args .t1) ≡ 24 = search needs in
+    let w = b .before .args .t1 in
+    let l : length w ≡ 24 = search needs in
     let e : b .loop .i ≡ 22 = omega arith in
-    copied 2 _ 22 (rw e at (b .loop .inv .1)) [] (omega arith) (omega arith) ∙ append-nil _
+    filled (drop 2 w) 22 (rw e at (b .loop .inv .1)) [] (rw length-drop (omega arith)) (omega arith) ∙ append-nil _
 
 pub kept-spec : {M : Type 1} → statement M
 kept-spec =

@@ -7,12 +7,12 @@ use borrow.Author.Needs.{needs}
 use lib.ListN.{length}
 use mir.Facts.{toZ-ofZ}
 use lib.Seq.{sets}
-use Rattle.mirror.proofs.Copies.{Copied, copy, copied}
+use Rattle.laws.specs.Filled.{Filled, filled, copy}
 use Rattle.mirror.proofs.row.Statement.{statement}
 use Rattle.mirror.proofs.row.Tie as tie
 
 abbrev Inv-loop : tie.InvT-loop
-Inv-loop x past w₀ i₀ w i = (i ≤ 11) × Copied 0 past 12 w i
+Inv-loop x past w₀ i₀ w i = (i ≤ 11) × Filled past 12 w i
 
 abbrev μ-loop : tie.MeasureT-loop
 μ-loop x past w₀ i₀ w i = 11 - i
@@ -30,7 +30,7 @@ returns c =
     let l : length (s .args .t1) ≡ 11 = search needs in
     let e : b .loop .i ≡ 11 = omega arith in
     (λ q. sets (b .loop .w) 11 (toZ-ofZ (s .fits .x) q ∷ []))
-    ∙ copied 0 _ 12 (rw e at (b .loop .inv .1)) (s .args .x ∷ []) (omega arith) (omega arith)
+    ∙ filled _ 12 (rw e at (b .loop .inv .1)) (s .args .x ∷ []) (omega arith) (omega arith)
 
 pub row-spec : {M : Type 1} → statement M
 row-spec =

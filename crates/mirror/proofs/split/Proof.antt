@@ -1,6 +1,6 @@
 -- `mirror::split` meets its contract. The invariant: each phase's sum so far, with its bound.
 use mathlib.Core.Path.{_∙_}
-use Prim.Native.Nat.{ℕ, _+_, _*_, _-_, _^_, _≤_, _<_}
+use Prim.Native.Nat.{ℕ, _+_, _*_, _-_, _≤_, _<_}
 use native.Mathlib.Omega.{arith}
 use lib.Dec.{lit<}
 use mir.Syntax.{w32}
@@ -11,7 +11,8 @@ use Rattle.laws.specs.Size.{shr-fits}
 use Rattle.g722.specs.Tables.{h}
 use Rattle.g722.specs.Mirror.{coefficient, xin, accuma, accumb, lowt, hight}
 use Rattle.mirror.specs.Filters.{splitOf}
-use Rattle.mirror.proofs.Sums.{Read, is-read, plus, plus-fits, less, less-fits, Summed, none, room, more, whole, even, odd, even-weight, odd-weight}
+use Rattle.mirror.proofs.Sums.{Read, is-read, plus-fits, less-fits}
+use Rattle.mirror.proofs.Sums.{Summed, none, room, more, whole, even, odd, even-weight, odd-weight}
 use Rattle.mirror.proofs.split.Statement.{statement}
 use Rattle.mirror.proofs.split.Tie as tie
 
@@ -77,7 +78,16 @@ returns c =
     let b = all-b (c .before .before) in
     let p = plus-fits a b (lit< tt) in
     let m = less-fits a b (lit< tt) in
-    rw (got16 (c .limit2) ∙ c .limit2 .ensures, got16 (c .before .limit) ∙ c .before .limit .ensures, toZ-ofZ p, toZ-ofZ m, toZ-ofZ (shr-fits 8192 p), toZ-ofZ (shr-fits 8192 m), a .is, b .is)
+    rw (
+      got16 (c .limit2) ∙ c .limit2 .ensures,
+      got16 (c .before .limit) ∙ c .before .limit .ensures,
+      toZ-ofZ p,
+      toZ-ofZ m,
+      toZ-ofZ (shr-fits 8192 p),
+      toZ-ofZ (shr-fits 8192 m),
+      a .is,
+      b .is,
+    )
 
 pub split-spec : {M : Type 1} → statement M
 split-spec =

@@ -10,7 +10,8 @@ use Rattle.laws.specs.Size.{fits-abs, abs-add, abs-mul}
 use Rattle.mirror.proofs.tap.Statement.{statement}
 use Rattle.mirror.proofs.tap.Tie as tie
 
-product : (c : tie.After-wide) → toZ w32 (ofZ w32 (c .wide .result)) *ℤ toZ w32 (ofZ w32 (c .before .args .v)) ≡ c .before .args .h *ℤ c .before .args .v
+product : (c : tie.After-wide)
+    → toZ w32 (ofZ w32 (c .wide .result)) *ℤ toZ w32 (ofZ w32 (c .before .args .v)) ≡ c .before .args .h *ℤ c .before .args .v
 product c = let s = c .before in rw (widened (c .wide .ok) (c .wide .ensures) (s .fits .h), toZ-ofZ (s .fits .v))
 
 mul-result : tie.Need-mul-result

@@ -7,12 +7,12 @@ use borrow.Author.Needs.{needs}
 use lib.ListN.{length}
 use mir.Facts.{toZ-ofZ}
 use lib.Seq.{sets}
-use Rattle.mirror.proofs.Copies.{Copied, copy, copied}
+use Rattle.laws.specs.Filled.{Filled, filled, copy}
 use Rattle.mirror.proofs.window.Statement.{statement}
 use Rattle.mirror.proofs.window.Tie as tie
 
 abbrev Inv-loop : tie.InvT-loop
-Inv-loop x y past w₀ i₀ w i = (i ≤ 22) × Copied 0 past 24 w i
+Inv-loop x y past w₀ i₀ w i = (i ≤ 22) × Filled past 24 w i
 
 abbrev μ-loop : tie.MeasureT-loop
 μ-loop x y past w₀ i₀ w i = 22 - i
@@ -30,7 +30,7 @@ returns c =
     let l : length (s .args .t1) ≡ 22 = search needs in
     let e : b .loop .i ≡ 22 = omega arith in
     (λ q. sets (b .loop .w) 22 (toZ-ofZ (s .fits .x) q ∷ toZ-ofZ (s .fits .y) q ∷ []))
-    ∙ copied 0 _ 24 (rw e at (b .loop .inv .1)) (s .args .x ∷ s .args .y ∷ []) (omega arith) (omega arith)
+    ∙ filled _ 24 (rw e at (b .loop .inv .1)) (s .args .x ∷ s .args .y ∷ []) (omega arith) (omega arith)
 
 pub window-spec : {M : Type 1} → statement M
 window-spec =

@@ -19,7 +19,8 @@ returns c =
     let s = q .before .before .before .before in
     let band = s .args .s in
     let ih = highWord (s .args .o) in
-    let d = got16 (q .invqah) ∙ q .invqah .ensures ∙ ap (invqah ih) (back16 (band .factors .scale) (q .before .before .struct-told .given .1 .0 .1)) in
+    let scale = back16 (band .factors .scale) (q .before .before .struct-told .given .1 .0 .1) in
+    let d = got16 (q .invqah) ∙ q .invqah .ensures ∙ ap (invqah ih) scale in
     band-heard band (invqah ih (band .factors .scale)) (invqah ih (band .factors .scale)) (highFactors (band .factors) ih)
     (q .before .estimate .ensures)
     (back16 (q .before .estimate .result .s) (a .before .struct-told2 .given .1 .0 .1))

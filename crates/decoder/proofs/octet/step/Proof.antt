@@ -16,11 +16,13 @@ returns c =
     let l = h .before in
     let s = l .before .before .before .before .before .before in
     let past = s .args .d .past in
+    let low = back16 (l .low-heard .result .signal) (w .before .before .before .struct-told .given .0 .1) in
+    let high = back16 (h .high-heard .result .signal) (w .before .struct-told2 .given .0 .1) in
     octet-heard (s .args .mode) (s .args .d) (s .args .o)
     (l .low-heard .ensures)
     (h .high-heard .ensures)
-    (w .before .before .row .ensures ∙ ap (λ (z : ℤ). past .rl ++ (z ∷ [])) (back16 (l .low-heard .result .signal) (w .before .before .before .struct-told .given .0 .1)))
-    (w .row2 .ensures ∙ ap (λ (z : ℤ). past .rh ++ (z ∷ [])) (back16 (h .high-heard .result .signal) (w .before .struct-told2 .given .0 .1)))
+    (w .before .before .row .ensures ∙ ap (λ (z : ℤ). past .rl ++ (z ∷ [])) low)
+    (w .row2 .ensures ∙ ap (λ (z : ℤ). past .rh ++ (z ∷ [])) high)
     (j .join .ensures)
     (back16 (j .join .result .first) (c .struct-told3 .given .0 .1))
     (back16 (j .join .result .second) (c .struct-told3 .given .1 .0 .1))

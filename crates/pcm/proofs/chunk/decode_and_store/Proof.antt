@@ -16,14 +16,18 @@ returns c =
     let n = t .before .before .before in
     let d = n .before .before .before in
     let a = d .before .before .before .before .args in
-    does (decode-done (a .d) (a .told) (a .octets .now) (a .bytes .now) (a .samples .now) (omega arith) (omega arith) (d .decode .ensures .answer) (n .if1 .taken))
+    does
+    (decode-done (a .d) (a .told) (a .octets .now) (a .bytes .now) (a .samples .now) (omega arith) (omega arith)
+    (d .decode .ensures .answer) (n .if1 .taken))
     (d .decode .ensures .answer) (t .store .ensures .left ∙ store-all _ _ (omega arith) ∙ ap pcmBytes (d .decode .ensures .left))
 
 returns-2 : tie.Need-returns-2
 returns-2 c =
     let d = c .before .before .before in
     let a = d .before .before .before .before .args in
-    does (decode-refused (a .d) (a .told) (a .octets .now) (a .bytes .now) (a .samples .now) (omega arith) (omega arith) (d .decode .ensures .answer) (c .if1 .left))
+    does
+    (decode-refused (a .d) (a .told) (a .octets .now) (a .bytes .now) (a .samples .now) (omega arith) (omega arith)
+    (d .decode .ensures .answer) (c .if1 .left))
     (d .decode .ensures .answer) refl
 
 pub decode-and-store-spec : {M : Type 1} → statement M

@@ -15,7 +15,8 @@ returns c =
     let k = c .before .before in
     let l = k .before .before .before .before in
     let a = l .before .before .before .before .args in
-    does (ap (λ (s : List ℤ). codeCall (a .c) s (a .octets .now)) (sym (load-all (a .bytes .now) (a .samples .now) (omega arith)) ∙ sym (l .load .ensures .left)))
+    let samples = sym (load-all (a .bytes .now) (a .samples .now) (omega arith)) ∙ sym (l .load .ensures .left) in
+    does (ap (λ (s : List ℤ). codeCall (a .c) s (a .octets .now)) samples)
     (k .code .ensures .answer) (k .code .ensures .left)
 
 pub load-and-code-spec : {M : Type 1} → statement M

@@ -27,7 +27,9 @@ loop-again c =
     let b = t .before .before .before .args .bytes .now in
     let i = t .loop .i in
     let x = back16 (getD s i (pos 0)) (c .before .before .x .given) in
-    let turn = store-turn i b s (omega arith) (omega arith) (t .loop .inv .2) (c .before .high .ensures ∙ ap highOf x) (c .low .ensures ∙ ap lowOf x) in
+    let high = c .before .high .ensures ∙ ap highOf x in
+    let low = c .low .ensures ∙ ap lowOf x in
+    let turn = store-turn i b s (omega arith) (omega arith) (t .loop .inv .2) high low in
     (omega arith, simp length-set (t .loop .inv .1), turn)
 
 same-length : tie.Need-same-length Inv-loop μ-loop

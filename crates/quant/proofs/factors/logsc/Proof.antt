@@ -13,7 +13,15 @@ returns c =
     let a = w .before in
     let m = a .before in
     let f = m .before .fits in
-    rw (got16 (c .clamp) ∙ c .clamp .ensures, got32 (w .wide) ∙ w .wide .ensures, got16 (a .add) ∙ a .add .ensures, got16 (m .mul) ∙ m .mul .ensures, toZ-ofZ (f .top), toZ-ofZ (f .w), toZ-ofZ (f .nb))
+    rw (
+      got16 (c .clamp) ∙ c .clamp .ensures,
+      got32 (w .wide) ∙ w .wide .ensures,
+      got16 (a .add) ∙ a .add .ensures,
+      got16 (m .mul) ∙ m .mul .ensures,
+      toZ-ofZ (f .top),
+      toZ-ofZ (f .w),
+      toZ-ofZ (f .nb),
+    )
 
 pub logsc-spec : {M : Type 1} → statement M
 logsc-spec = tie.close (tie.spec (λ c κs. tt) (λ c κs. tt) (λ c κs. tt) (λ c κs. tt) returns)

@@ -12,4 +12,5 @@ unfolding scalel
 returns c = rw (got16 (c .scale-at) ∙ c .scale-at .ensures, c .before .size .ensures, toZ-ofZ (c .before .before .fits .nbpl))
 
 pub scalel-spec : {M : Type 1} → statement M
-scalel-spec = tie.close (tie.spec (λ c κs. tt) (λ c. record { fits = omega arith }) (λ c. record { fits = omega arith }) (λ c κs. tt) returns)
+scalel-spec =
+    tie.close (tie.spec (λ c κs. tt) (λ c. record { fits = omega arith }) (λ c. record { fits = omega arith }) (λ c κs. tt) returns)

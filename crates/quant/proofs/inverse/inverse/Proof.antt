@@ -17,7 +17,8 @@ sub-pick c =
     let n = c .args .q * 8 in
     rw (eight-read (c .args .q) (c .pre), +ℤ-idl (neg n)) (small-fits (signed-small true n (eight-small (c .args .q) (c .pre))))
 
-picked : (c : tie.After-pick) → toZ w16 (ofZ w16 (c .pick .result)) ≡ cond (c .before .args .negative) (neg (c .before .args .q * 8)) (pos (c .before .args .q * 8))
+picked : (c : tie.After-pick)
+    → let a = c .before .args in toZ w16 (ofZ w16 (c .pick .result)) ≡ cond (a .negative) (neg (a .q * 8)) (pos (a .q * 8))
 picked c =
     let s = c .before in
     rw (got16 (c .pick) ∙ c .pick .ensures, toZ-ofZ (sub-pick s), eight-read (s .args .q) (s .pre), +ℤ-idl (neg (s .args .q * 8)))
@@ -32,7 +33,21 @@ cast-result c = rw (got32 (c .product) ∙ c .product .ensures) (mul-fits _ _)
 
 returns : tie.Need-returns
 returns c =
-    rw (toZ-ofZ (cast-result c), got32 (c .product) ∙ c .product .ensures, picked (c .before), toZ-ofZ (c .before .before .fits .det)) (mul-comm _ _)
+    rw (
+      toZ-ofZ (cast-result c),
+      got32 (c .product) ∙ c .product .ensures,
+      picked (c .before),
+      toZ-ofZ (c .before .before .fits .det),
+    ) (mul-comm _ _)
 
 pub inverse-spec : {M : Type 1} → statement M
-inverse-spec = tie.close (tie.spec (λ c. eight-fits (c .args .q) (c .pre)) (λ c. eight-sfits (c .args .q) (c .pre)) sub-pick (λ c κs. tt) product-requires cast-result returns)
+inverse-spec =
+    tie.close
+    (tie.spec
+    (λ c. eight-fits (c .args .q) (c .pre))
+    (λ c. eight-sfits (c .args .q) (c .pre))
+    sub-pick
+    (λ c κs. tt)
+    product-requires
+    cast-result
+    returns)

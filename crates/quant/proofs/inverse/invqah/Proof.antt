@@ -12,7 +12,13 @@ inverse-requires c κs = rw (c .qq2-at .ensures) (qq2-small (c .before .from-two
 
 returns : tie.Need-returns
 unfolding inverse invqah
-returns c = rw (got16 (c .inverse) ∙ c .inverse .ensures, c .before .qq2-at .ensures, c .before .before .from-two .ensures, toZ-ofZ (c .before .before .before .fits .deth))
+returns c =
+    rw (
+      got16 (c .inverse) ∙ c .inverse .ensures,
+      c .before .qq2-at .ensures,
+      c .before .before .from-two .ensures,
+      toZ-ofZ (c .before .before .before .fits .deth),
+    )
 
 pub invqah-spec : {M : Type 1} → statement M
 invqah-spec = tie.close (tie.spec (λ c κs. tt) (λ c κs. tt) inverse-requires returns)

@@ -12,7 +12,13 @@ inverse-requires c κs = rw (c .qq4-at .ensures) (qq4-small (c .before .from-fou
 
 returns : tie.Need-returns
 unfolding inverse invqal
-returns c = rw (got16 (c .inverse) ∙ c .inverse .ensures, c .before .qq4-at .ensures, c .before .before .from-four .ensures, toZ-ofZ (c .before .before .before .fits .detl))
+returns c =
+    rw (
+      got16 (c .inverse) ∙ c .inverse .ensures,
+      c .before .qq4-at .ensures,
+      c .before .before .from-four .ensures,
+      toZ-ofZ (c .before .before .before .fits .detl),
+    )
 
 pub invqal-spec : {M : Type 1} → statement M
 invqal-spec = tie.close (tie.spec (λ c κs. tt) (λ c κs. tt) inverse-requires returns)

@@ -19,20 +19,50 @@ unfolding inverse invqbl
 returns c =
     let b = c .before .before in
     let s = b .before .before in
-    rw (got16 (c .inverse) ∙ c .inverse .ensures, c .before .qq6-at .ensures, b .from-six .ensures, toZ-ofZ (s .fits .detl), eq-eqb (s .args .mode) 1 (b .before .if1 .taken))
+    rw (
+      got16 (c .inverse) ∙ c .inverse .ensures,
+      c .before .qq6-at .ensures,
+      b .from-six .ensures,
+      toZ-ofZ (s .fits .detl),
+      eq-eqb (s .args .mode) 1 (b .before .if1 .taken),
+    )
 
 returns-2 : tie.Need-returns-2
 unfolding inverse invqbl
 returns-2 c =
     let b = c .before .before in
     let s = b .before .before .before in
-    rw (got16 (c .inverse2) ∙ c .inverse2 .ensures, c .before .qq5-at .ensures, b .from-five .ensures, toZ-ofZ (s .fits .detl), ne-eqb (s .args .mode) 1 (b .before .before .if1 .left), eq-eqb (s .args .mode) 2 (b .before .if2 .taken))
+    rw (
+      got16 (c .inverse2) ∙ c .inverse2 .ensures,
+      c .before .qq5-at .ensures,
+      b .from-five .ensures,
+      toZ-ofZ (s .fits .detl),
+      ne-eqb (s .args .mode) 1 (b .before .before .if1 .left),
+      eq-eqb (s .args .mode) 2 (b .before .if2 .taken),
+    )
 
 returns-3 : tie.Need-returns-3
 unfolding invqal invqbl
 returns-3 c =
     let s = c .before .before .before in
-    rw (got16 (c .invqal) ∙ c .invqal .ensures, toZ-ofZ (s .fits .detl), ne-eqb (s .args .mode) 1 (c .before .before .if1 .left), ne-eqb (s .args .mode) 2 (c .before .if2 .left))
+    rw (
+      got16 (c .invqal) ∙ c .invqal .ensures,
+      toZ-ofZ (s .fits .detl),
+      ne-eqb (s .args .mode) 1 (c .before .before .if1 .left),
+      ne-eqb (s .args .mode) 2 (c .before .if2 .left),
+    )
 
 pub invqbl-spec : {M : Type 1} → statement M
-invqbl-spec = tie.close (tie.spec (λ c κs. tt) (λ c κs. tt) inverse-requires returns (λ c κs. tt) (λ c κs. tt) inverse-requires-2 returns-2 (λ c κs. tt) returns-3)
+invqbl-spec =
+    tie.close
+    (tie.spec
+    (λ c κs. tt)
+    (λ c κs. tt)
+    inverse-requires
+    returns
+    (λ c κs. tt)
+    (λ c κs. tt)
+    inverse-requires-2
+    returns-2
+    (λ c κs. tt)
+    returns-3)

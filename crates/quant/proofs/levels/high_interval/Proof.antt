@@ -16,14 +16,22 @@ returns : tie.Need-returns
 unfolding q2 atOrBelow
 returns c =
     let s = c .before .before in
-    let t = rw (i32-read (s .fits .size), got32 (c .before .level) ∙ c .before .level .ensures, toZ-ofZ (s .fits .scale)) at (c .if1 .taken) in
+    let t = rw (
+      i32-read (s .fits .size),
+      got32 (c .before .level) ∙ c .before .level .ensures,
+      toZ-ofZ (s .fits .scale),
+    ) at (c .if1 .taken) in
     ap (λ n. 1 + n) (sym (passed (s .args .size) (level (s .args .scale) 564) [] t))
 
 returns-2 : tie.Need-returns-2
 unfolding q2 atOrBelow
 returns-2 c =
     let s = c .before .before in
-    let t = rw (i32-read (s .fits .size), got32 (c .before .level) ∙ c .before .level .ensures, toZ-ofZ (s .fits .scale)) at (c .if1 .left) in
+    let t = rw (
+      i32-read (s .fits .size),
+      got32 (c .before .level) ∙ c .before .level .ensures,
+      toZ-ofZ (s .fits .scale),
+    ) at (c .if1 .left) in
     ap (λ n. 1 + n) (sym (counted (s .args .size) (level (s .args .scale) 564) [] t))
 
 pub high-interval-spec : {M : Type 1} → statement M

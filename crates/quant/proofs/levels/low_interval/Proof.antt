@@ -1,18 +1,13 @@
 -- `low_interval` meets its contract. The invariant: what is counted from place i on, and i, make the whole count.
 use mathlib.Core.Path.{_∙_}
-use mathlib.Core.Bool.{true, false}
-use Prim.Native.Nat.{_+_, _-_, _≤_}
+use Prim.Native.Nat.{_-_}
 use native.Mathlib.Omega.{arith}
-use lib.IntN.{pos}
-use lib.ListN.{drop}
-use lib.Signed.{ltZ}
-use borrow.Author.Needs.{needs}
-use mir.Syntax.{w16, w32}
+use mir.Syntax.{w16}
 use mir.Val.{toZ, ofZ}
-use mir.Facts.{toZ-ofZ, toZ-pos}
+use mir.Facts.{toZ-ofZ}
 use Rattle.laws.specs.Back.{got32}
 use Rattle.g722.specs.Tables.{q6}
-use Rattle.g722.specs.Quantise.{level, atOrBelow}
+use Rattle.g722.specs.Quantise.{level}
 use Rattle.tables.specs.Entries.{q6-small}
 use Rattle.quant.proofs.Laws.{as-i32, i32-read}
 use Rattle.quant.proofs.Counting.{Counted, end, on, over}
@@ -36,7 +31,8 @@ loop-again c =
 returns : tie.Need-returns Inv-loop μ-loop
 returns c =
     let s = c .before .before in
-    rw (← toZ-ofZ (s .fits .scale)) (end (s .args .size) (c .before .loop .i) (c .if1 .taken) (toZ w16 (ofZ w16 (s .args .scale))) (c .before .loop .inv))
+    rw (← toZ-ofZ (s .fits .scale))
+    (end (s .args .size) (c .before .loop .i) (c .if1 .taken) (toZ w16 (ofZ w16 (s .args .scale))) (c .before .loop .inv))
 
 returns-2 : tie.Need-returns-2 Inv-loop μ-loop
 unfolding q6
@@ -44,7 +40,8 @@ returns-2 c =
     let b = c .before .before in
     let s = b .before .before in
     let t = rw (i32-read (s .fits .size), got32 (c .before .level) ∙ c .before .level .ensures) at (c .if2 .taken) in
-    rw (← toZ-ofZ (s .fits .scale)) (over (s .args .size) (b .before .loop .i) (b .if1 .left) (toZ w16 (ofZ w16 (s .args .scale))) t (b .before .loop .inv))
+    rw (← toZ-ofZ (s .fits .scale))
+    (over (s .args .size) (b .before .loop .i) (b .if1 .left) (toZ w16 (ofZ w16 (s .args .scale))) t (b .before .loop .inv))
 
 level-requires : tie.Need-level-requires Inv-loop μ-loop
 unfolding q6
