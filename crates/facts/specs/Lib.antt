@@ -4,3 +4,5 @@ pub mod Reach
 pub mod Sent
 pub mod Upper
 pub mod Told
+pub mod Range
+pub mod Good

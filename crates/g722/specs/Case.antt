@@ -2,7 +2,7 @@
 -- One test computes which cases of a table fail; one law makes of it an equation for each.
 -- Assumes nothing.
 use mathlib.Core.Path.{_≡_, refl, sym, ap, ap₂}
-use mathlib.Core.Bool.{Bool, true, false, cond, _&&_}
+use mathlib.Core.Bool.{Bool, true, false, cond}
 use mathlib.Core.List.{List, [], _∷_, _++_, map, cons≢nil}
 use Prim.Native.Nat.{ℕ, _*_, _/_}
 use borrow.Author.Tests.{eqb-true}

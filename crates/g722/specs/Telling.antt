@@ -20,7 +20,6 @@ use Rattle.g722.specs.Decoding.{rlOf, rhOf, decoderStep, decodeCall}
 use Rattle.g722.specs.Cue.{unfilled, putCall, takeCall}
 use Rattle.g722.specs.Opened.{meaning}
 use Rattle.g722.specs.Case.{Case, _gives_, Hold, all-hold, these, truths, sent, heard, codes, decodes, moves}
-use Rattle.g722.specs.declared.Zeros.{Zeros}
 use Rattle.g722.specs.declared.Poles.{Poles}
 use Rattle.g722.specs.declared.Band.{Band}
 use Rattle.g722.specs.declared.Coder.{Coder}

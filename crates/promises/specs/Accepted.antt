@@ -1,15 +1,15 @@
 -- What an accepted call is: the tests that it passed, and the run that it then is.
 -- Assumes nothing.
-use mathlib.Core.Path.{_≡_, refl}
-use mathlib.Core.Bool.{Bool, true, false, not, _||_}
+use mathlib.Core.Path.{_≡_}
+use mathlib.Core.Bool.{true, false}
 use mathlib.Core.List.{List}
-use Prim.Native.Nat.{ℕ, _*_, _≤_}
+use Prim.Native.Nat.{ℕ, _≤_}
 use native.Mathlib.Omega.{arith}
-use borrow.Author.Tests.{ltb-false, eqb-true}
-use lib.Dec.{ltb, eqb}
+use borrow.Author.Tests.{ltb-false}
+use lib.Dec.{ltb}
 use lib.IntN.{ℤ}
 use lib.ListN.{length}
-use Rattle.laws.specs.Order.{by-test, no}
+use Rattle.laws.specs.Order.{by-test}
 use Rattle.g722.specs.Quantise.{inForce}
 use Rattle.g722.specs.Records.{goodCoder, goodDecoder}
 use Rattle.g722.specs.Coding.{firstBad, misfit, notCoded, coded, codeCall}

@@ -6,7 +6,6 @@ pub mod Refused
 pub mod Through
 pub mod Sequences
 pub mod Streams
-pub mod Range
 pub mod Good
 -- the two ends
 pub mod Ends

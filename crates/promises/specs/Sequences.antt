@@ -2,6 +2,7 @@
 -- over what its accepted calls were given.
 -- Assumes nothing.
 use mathlib.Core.Path.{_≡_, refl, ap, _∙_}
+use mathlib.Core.Bool.{true}
 use mathlib.Core.List.{List, [], _∷_, _++_}
 use Prim.Native.Nat.{ℕ, zero, suc, _*_}
 use native.Mathlib.Omega.{arith}
@@ -9,6 +10,7 @@ use borrow.Author.Tests.{eqb-true, eqb-false}
 use lib.IntN.{ℤ}
 use lib.ListN.{length}
 use Rattle.g722.specs.Quantise.{inForce}
+use Rattle.g722.specs.Records.{allInRange}
 use Rattle.g722.specs.Coding.{coderStep, octetOf, octetsOf, coderAfter, coded, codeCall}
 use Rattle.g722.specs.Decoding.{decoded, decodeCall}
 use Rattle.g722.specs.declared.Coder.{Coder}
@@ -16,6 +18,7 @@ use Rattle.g722.specs.declared.Coded.{Coded}
 use Rattle.g722.specs.declared.Decoder.{Decoder}
 use Rattle.g722.specs.declared.Decoded.{Decoded}
 use Rattle.facts.specs.Lengths.{twice}
+use Rattle.facts.specs.Range.{run-in-range}
 use Rattle.facts.specs.Told.{Told, decoderRun, samplesRun, marked, decoder-run, samples-run, decoder-join, samples-join}
 use Rattle.promises.specs.Accepted.{coded-fits, coded-run, decoded-run}
 use Rattle.promises.specs.Refused.{code-beside, decode-beside}
@@ -161,3 +164,7 @@ decoder-as-one-run = as-one-run decoding decoding-runs
 
 pub samples-as-one-run : (d : Decoder) (ks : List DecodeInput) → samplesThrough d ks ≡ samplesRun d (octetsTaken d ks)
 samples-as-one-run = left-as-one-run decoding decoding-runs
+
+-- every sample that they left is in range
+pub samples-in-range : (d : Decoder) (ks : List DecodeInput) → allInRange (samplesThrough d ks) ≡ true
+samples-in-range d ks = rw (samples-as-one-run d ks) (run-in-range d (octetsTaken d ks))

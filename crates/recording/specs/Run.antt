@@ -3,12 +3,11 @@
 use mathlib.Core.Path.{_≡_, refl, sym, ap, ap₂, _∙_}
 use mathlib.Core.List.{List, [], _∷_, _++_}
 use Prim.Native.Nat.{ℕ, _*_}
-use native.Mathlib.Omega.{arith}
 use lib.IntN.{ℤ}
 use lib.ListN.{length, take}
 use lib.Seq.{take-at}
 use Rattle.laws.specs.Outcome.{Outcome}
-use Rattle.g722.specs.Decoding.{samplesOf, decoderAfter}
+use Rattle.g722.specs.Decoding.{samplesOf}
 use Rattle.g722.specs.declared.Decoder.{Decoder}
 use Rattle.facts.specs.Told.{Told, decoderRun, samplesRun, marked, decoder-run, samples-run, samples-length, decoder-join, samples-join}
 use Rattle.block.specs.Calls.{readCall}

@@ -1,7 +1,7 @@
 -- What is limited is in range: the transmit filter's two signals, the heard signals, and every sample that a decoder gives.
 -- Assumes nothing.
-use mathlib.Core.Path.{_≡_, refl, sym}
-use mathlib.Core.Bool.{Bool, true, false, _&&_}
+use mathlib.Core.Path.{_≡_, refl}
+use mathlib.Core.Bool.{Bool, true, false}
 use mathlib.Core.List.{List, [], _∷_, _++_}
 use Prim.Native.Nat.{ℕ, zero, suc, _≤_}
 use native.Mathlib.Nat.{le-of-suc-le-suc}
@@ -10,8 +10,9 @@ use lib.Dec.{T}
 use lib.IntN.{ℤ, pos}
 use lib.ListN.{length, drop}
 use lib.Signed.{leZ, _≤ℤ_, leZ-yes, ≤ℤ-refl}
+use Rattle.laws.specs.Both.{both, left-true, right-true}
 use Rattle.laws.specs.Clamp.{clamp-within}
-use Rattle.laws.specs.Order.{by-test, no}
+use Rattle.laws.specs.Order.{by-test}
 use Rattle.g722.specs.Arithmetic.{neg, limit, within, equal}
 use Rattle.g722.specs.Mirror.{lowt, hight, accumc, accumd}
 use Rattle.g722.specs.Records.{inRange, allInRange}
@@ -19,21 +20,9 @@ use Rattle.g722.specs.Coding.{firstBad}
 use Rattle.g722.specs.Decoding.{rlOf, rhOf, firstOf, secondOf, decoderStep}
 use Rattle.g722.specs.declared.Band.{Band}
 use Rattle.g722.specs.declared.Decoder.{Decoder}
 use Rattle.facts.specs.Told.{Told, samplesRun}
-use Rattle.promises.specs.Sequences.{DecodeInput, samplesThrough, octetsTaken, samples-as-one-run}
 
 -- ---- tests
-
-pub both : {a b : Bool} → a ≡ true → b ≡ true → (a && b) ≡ true
-both p q = rw (p, q)
-
-pub left-true : (a b : Bool) → (a && b) ≡ true → a ≡ true
-left-true true b e = refl
-left-true false b e = e
-
-pub right-true : (a b : Bool) → (a && b) ≡ true → b ≡ true
-right-true true b e = e
-right-true false b e = no (sym e)
 
 holds : (t : Bool) → T t → t ≡ true
 holds true x = refl
@@ -72,7 +61,7 @@ all-clean (x ∷ rest) h =
     (λ e. let k : suc (length rest) ≤ suc (firstBad rest) = rw e at h in both e (all-clean rest (le-of-suc-le-suc k)))
     (λ e. absurd (let k : suc (length rest) ≤ zero = rw e at h in omega arith))
 
--- ---- THE THEOREMS
+-- ---- what is limited
 
 pub limited : (z : ℤ) → inRange (limit z) ≡ true
 unfolding inRange limit
@@ -96,11 +85,8 @@ pub rh-in-range : (s : Band) (o : ℕ) → inRange (rhOf s o) ≡ true
 unfolding rhOf
 rh-in-range s o = limited _
 
--- XOUT1 and XOUT2, over a run and over any sequence of calls
-run-in-range : (d : Decoder) (ts : List Told) → allInRange (samplesRun d ts) ≡ true
+-- XOUT1 and XOUT2, over a run
+pub run-in-range : (d : Decoder) (ts : List Told) → allInRange (samplesRun d ts) ≡ true
 unfolding samplesRun firstOf secondOf accumc accumd allInRange
 run-in-range d [] = refl
 run-in-range d (t ∷ ts) = both (limited _) (both (limited _) (run-in-range (decoderStep (t .mode) d (t .octet)) ts))
-
-pub samples-in-range : (d : Decoder) (ks : List DecodeInput) → allInRange (samplesThrough d ks) ≡ true
-samples-in-range d ks = rw (samples-as-one-run d ks) (run-in-range d (octetsTaken d ks))
