@@ -96,10 +96,12 @@ fn answer(number: u8, index: usize, c: Coder) -> Coded
 pub fn code(c: Coder, samples: &[i16], octets: &mut [u8]) -> Coded
     ensures { λ r. ⌜ Does (codeCall c (now (samples .entry)) (now (octets .entry))) r (now (octets .exit)) ⌝ }
 {
-    if misfit(samples.len(), octets.len()) {
+    let unfit = misfit(samples.len(), octets.len());
+    let good = good_coder(c);
+    if unfit {
         return answer(3, 0, c);
     }
-    if !good_coder(c) {
+    if !good {
         return answer(2, 0, c);
     }
     if !all_in_range(samples) {

@@ -95,13 +95,15 @@ fn answer(number: u8, d: Decoder) -> Decoded
 pub fn decode(d: Decoder, told: u8, octets: &[u8], samples: &mut [i16]) -> Decoded
     ensures { λ r. ⌜ Does (decodeCall d told (now (octets .entry)) (now (samples .entry))) r (now (samples .exit)) ⌝ }
 {
+    let unfit = misfit(samples.len(), octets.len());
+    let good = good_decoder(d);
     if 3 < told {
         return answer(1, d);
     }
-    if misfit(samples.len(), octets.len()) {
+    if unfit {
         return answer(3, d);
     }
-    if !good_decoder(d) {
+    if !good {
         return answer(2, d);
     }
     answer(0, run(in_force(told), d, octets, samples))

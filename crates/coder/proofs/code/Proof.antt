@@ -16,23 +16,25 @@ use Rattle.coder.proofs.code.Tie as tie
 
 returns : tie.Need-returns
 unfolding notCoded
-returns c = let t = c .before in does (call-misfit _ _ _ (sym (t .before .misfit .ensures) ∙ t .if1 .taken)) (c .answer .ensures) refl
+returns c =
+    let t = c .before in
+    does (call-misfit _ _ _ (sym (t .before .before .misfit .ensures) ∙ t .if1 .taken)) (c .answer .ensures) refl
 
 -- past the first test
 fits : (e : tie.Else1)
-    → let args = e .before .before .before .args in misfit (length (args .samples .now)) (length (args .octets .now)) ≡ false
-fits e = sym (e .before .misfit .ensures) ∙ e .if1 .left
+    → let args = e .before .before .before .before .args in misfit (length (args .samples .now)) (length (args .octets .now)) ≡ false
+fits e = sym (e .before .before .misfit .ensures) ∙ e .if1 .left
 
 returns-2 : tie.Need-returns-2
 unfolding notCoded
 returns-2 c =
     let t = c .before in
-    does (call-broken _ _ _ (fits (t .before .before)) (sym (t .before .good-coder .ensures) ∙ not-true _ (t .if2 .taken)))
+    does (call-broken _ _ _ (fits (t .before)) (sym (t .before .before .good-coder .ensures) ∙ not-true _ (t .if2 .taken)))
     (c .answer2 .ensures) refl
 
 -- past the second
 from-good : (e : tie.Else2) → goodCoder (e .before .before .before .before .before .args .c) ≡ true
-from-good e = sym (e .before .good-coder .ensures) ∙ not-false _ (e .if2 .left)
+from-good e = sym (e .before .before .good-coder .ensures) ∙ not-false _ (e .if2 .left)
 
 returns-3 : tie.Need-returns-3
 unfolding notCoded
@@ -42,7 +44,7 @@ returns-3 c =
     let g = t .before .before in
     let bad = some-bad _ (sym (t .before .all-in-range .ensures) ∙ not-true _ (t .if3 .taken)) in
     let args = g .before .before .before .before .before .args in
-    does (call-bad _ _ _ (fits (g .before .before)) (from-good g) bad)
+    does (call-bad _ _ _ (fits (g .before)) (from-good g) bad)
     (c .answer3 .ensures ∙ ap (λ (n : ℕ). record { number = 4; index = n; next = args .c }) (b .first-bad .ensures)) refl
 
 returns-4 : tie.Need-returns-4
@@ -52,11 +54,11 @@ returns-4 c =
     let e = r .before .before in
     let g = e .before .before in
     let clean = none-bad _ (sym (e .before .all-in-range .ensures) ∙ not-false _ (e .if3 .left)) in
-    does (call-done _ _ _ (fits (g .before .before)) (from-good g) clean)
+    does (call-done _ _ _ (fits (g .before)) (from-good g) clean)
     (c .answer4 .ensures ∙ ap (λ (s : Coder). record { number = 0; index = 0; next = s }) (r .run .ensures .answer)) (r .run .ensures .left)
 
 run-requires : tie.Need-run-requires
-run-requires c κs = twice _ _ (fits (c .before .before .before .before .before))
+run-requires c κs = twice _ _ (fits (c .before .before .before .before))
 
 pub code-spec : {M : Type 1} → statement M
 code-spec =
@@ -64,8 +66,8 @@ code-spec =
     (tie.spec
     (λ c κs. tt)
     (λ c κs. tt)
-    returns
     (λ c κs. tt)
+    returns
     (λ c κs. tt)
     returns-2
     (λ c κs. tt)

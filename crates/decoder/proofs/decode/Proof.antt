@@ -23,19 +23,19 @@ returns-2 : tie.Need-returns-2
 unfolding notDecoded
 returns-2 c =
     let t = c .before in
-    does (call-misfit _ _ _ _ (omega arith) (sym (t .before .misfit .ensures) ∙ t .if2 .taken)) (c .answer2 .ensures) refl
+    does (call-misfit _ _ _ _ (omega arith) (sym (t .before .before .before .misfit .ensures) ∙ t .if2 .taken)) (c .answer2 .ensures) refl
 
 -- past the second test
 fits : (e : tie.Else2)
-    → let args = e .before .before .before .before .args in misfit (length (args .samples .now)) (length (args .octets .now)) ≡ false
-fits e = sym (e .before .misfit .ensures) ∙ e .if2 .left
+    → let args = e .before .before .before .before .before .args in misfit (length (args .samples .now)) (length (args .octets .now)) ≡ false
+fits e = sym (e .before .before .before .misfit .ensures) ∙ e .if2 .left
 
 returns-3 : tie.Need-returns-3
 unfolding notDecoded
 returns-3 c =
     let t = c .before in
-    let broken = sym (t .before .good-decoder .ensures) ∙ not-true _ (t .if3 .taken) in
-    does (call-broken _ _ _ _ (omega arith) (fits (t .before .before)) broken)
+    let broken = sym (t .before .before .before .good-decoder .ensures) ∙ not-true _ (t .if3 .taken) in
+    does (call-broken _ _ _ _ (omega arith) (fits (t .before)) broken)
     (c .answer3 .ensures) refl
 
 returns-4 : tie.Need-returns-4
@@ -46,24 +46,24 @@ returns-4 c =
     let e = f .before in
     let args = e .before .before .before .before .before .before .args in
     let told = f .in-force .ensures in
-    does (call-done _ _ _ _ (omega arith) (fits (e .before .before)) (sym (e .before .good-decoder .ensures) ∙ not-false _ (e .if3 .left)))
+    does (call-done _ _ _ _ (omega arith) (fits (e .before)) (sym (e .before .before .before .good-decoder .ensures) ∙ not-false _ (e .if3 .left)))
     (c .answer4 .ensures ∙ ap (λ (s : Decoder). record { number = 0; index = 0; next = s })
     (r .run .ensures .answer ∙ ap (λ (m : ℕ). decoderAfter m (args .d) (args .octets .now)) told))
     (r .run .ensures .left ∙ ap (λ (m : ℕ). samplesOf m (args .d) (args .octets .now)) told)
 
 run-requires : tie.Need-run-requires
-run-requires c κs = twice _ _ (fits (c .before .before .before .before))
+run-requires c κs = twice _ _ (fits (c .before .before .before))
 
 pub decode-spec : {M : Type 1} → statement M
 decode-spec =
     tie.close
     (tie.spec
     (λ c κs. tt)
+    (λ c κs. tt)
+    (λ c κs. tt)
     returns
     (λ c κs. tt)
-    (λ c κs. tt)
     returns-2
-    (λ c κs. tt)
     (λ c κs. tt)
     returns-3
     (λ c κs. tt)
