@@ -53,7 +53,10 @@ fn say_same(name: &[u8], words: usize) {
 fn say_wrong(name: &[u8], words: usize, wrong: usize) {
     io::write_all(STDERR_FILENO, name);
     if words == 0 {
-        io::write_all(STDERR_FILENO, b": not read, or not as many words as its input\n");
+        io::write_all(
+            STDERR_FILENO,
+            b": not read, or not as many words as its input\n",
+        );
         return;
     }
     io::write_all(STDERR_FILENO, b": the first word that differs is ");
@@ -102,7 +105,10 @@ fn run(count: usize) {
 fn main() {
     let count = os::arg_count();
     if count < 3 || 1000 < count || count % 2 == 0 {
-        io::write_all(STDERR_FILENO, b"usage: sequences INPUT EXPECTED [INPUT EXPECTED ..]\n");
+        io::write_all(
+            STDERR_FILENO,
+            b"usage: sequences INPUT EXPECTED [INPUT EXPECTED ..]\n",
+        );
         return;
     }
     run(count);
