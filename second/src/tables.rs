@@ -1,4 +1,4 @@
-//! The printed tables of source 003, row by row.
+//! The printed tables of the Recommendation, row by row.
 
 /// One row of Tables 17 to 19 and 21: word, sign, interval.
 pub type WordRow = (u8, i32, usize);

@@ -61,7 +61,7 @@ fn a_ragged_input_is_refused_after_its_whole_pairs() {
 fn a_sample_out_of_range_is_refused_with_its_place_in_the_stream() {
     let mut samples = noise(20000);
     samples[17003] = -16385;
-    let octets = encode_all(&noise(16000), Wrong::None);
+    let octets = encode_all(&noise(17002), Wrong::None);
     assert_eq!(run(&["encode"], &bytes(&samples)), (octets, "refused 4 17003\n".to_string()));
 }
 
@@ -70,6 +70,32 @@ fn a_mode_out_of_range_is_refused() {
     for mode in ["4", "256", "-1", "x"] {
         assert_eq!(run(&["decode", mode], &[0]), (vec![], "refused 1 0\n".to_string()));
     }
+}
+
+#[test]
+fn data_goes_in_and_comes_out_in_calls() {
+    let file = std::env::temp_dir().join(format!("second-{}", std::process::id()));
+    let data: Vec<u8> = (0..1500u32).map(|i| (i * 7 % 251) as u8).collect();
+    std::fs::write(&file, &data).unwrap();
+    for (mode, n) in [("2", 12000), ("3", 6000)] {
+        let (octets, said) = run(&["put", mode, file.to_str().unwrap()], &vec![0xfa; n]);
+        assert_eq!((octets.len(), said), (n, String::new()));
+        assert_eq!(run(&["take", mode], &octets), (data.clone(), String::new()));
+    }
+    let said = |mode, n| run(&["put", mode, file.to_str().unwrap()], &vec![0xfa; n]).1;
+    assert_eq!(said("2", 12001), "refused 3 0\n");
+    assert_eq!(said("1", 12000), "refused 5 0\n");
+    assert_eq!(said("4", 12000), "refused 1 0\n");
+    std::fs::remove_file(&file).unwrap();
+}
+
+#[test]
+fn what_is_logged_is_listed() {
+    let (recording, _) = run(&["log", "7", "1"], &[0xfa; 481]);
+    assert_eq!(recording.len(), 1024);
+    let lines = String::from_utf8(run(&["listing"], &recording).0).unwrap();
+    assert!(lines.starts_with("7 0 1 480 ") && lines.contains("\n7 1 1 1 "), "{lines}");
+    assert_eq!(run(&["log", "7", "4"], &[0xfa]), (vec![], "refused 8 0\n".to_string()));
 }
 
 #[test]

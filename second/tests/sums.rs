@@ -1,4 +1,4 @@
-//! The fifteen sums worked by hand of document 01, under their numbers.
+//! The fifteen sums worked by hand of SCOPE, under their numbers.
 
 use second::blocks::{self, Reader};
 use second::filters::Transmit;

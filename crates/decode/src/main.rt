@@ -1,45 +1,27 @@
 // Octets on standard input to samples on standard output, two bytes each and the high byte first.
 // The one argument is the mode, 0 to 3.
-ghost use mathlib.Core.Bool.{cond, _||_};
-ghost use mathlib.Core.Path.{_≡_};
-ghost use Prim.Native.Nat.{_-_, _≤_};
-ghost use lib.Dec.{ltb};
+ghost use Prim.Native.Nat.{_≤_};
 ghost use lib.ListN.{length};
 use g722::Decoder;
+use libc::STDERR_FILENO;
 use libc::STDIN_FILENO;
 use libc::STDOUT_FILENO;
 use pcm::decode_chunk;
 
-// What a chunk leaves: the decoder after it, and whether to read on.
+// What a piece of the stream leaves: the decoder after it, and whether to read on.
 struct Onward {
     next: Decoder,
     more: bool,
 }
 
-// The mode that a digit tells, or 4, which is none.
-fn mode_of(digit: u8) -> u8
-    ensures { λ r. ⌜ r ≡ cond (ltb digit 48 || ltb 51 digit) 4 (digit - 48) ⌝ }
-{
-    if digit < 48 {
-        return 4;
-    }
-    if 51 < digit {
-        return 4;
-    }
-    digit - 48
-}
-
-// The mode that the argument tells, or 4.
-fn told() -> u8 {
-    let mut text = [0u8; 1];
-    let n = os::arg(1, &mut text);
-    if n != 1 {
-        return 4;
-    }
+// The mode that the one argument tells, or more than 255 where there is none.
+fn told() -> u64 {
     if os::arg_count() != 2 {
-        return 4;
+        return 256;
     }
-    mode_of(text[0])
+    let mut word = [0u8; 10];
+    let n = os::arg(1, &mut word);
+    argument::number(&word[..n])
 }
 
 // Decodes octets to bytes, and writes these.
@@ -56,11 +38,11 @@ fn send_all(d: Decoder, told: u8, octets: &[u8], bytes: &mut [u8]) -> Onward {
     }
     Onward {
         next: next,
-        more: octets.len() == 8000,
+        more: true,
     }
 }
 
-// After the last chunk.
+// After the last piece.
 fn last(d: Decoder) -> Onward {
     Onward {
         next: d,
@@ -68,7 +50,7 @@ fn last(d: Decoder) -> Onward {
     }
 }
 
-// Decodes a chunk and writes its samples.
+// Decodes a piece and writes its samples.
 fn send(d: Decoder, told: u8, octets: &[u8]) -> Onward
     requires { ⌜ length (now octets) ≤ 8000 ⌝ }
 {
@@ -77,14 +59,22 @@ fn send(d: Decoder, told: u8, octets: &[u8]) -> Onward
     send_all(d, told, octets, &mut bytes[..4 * n])
 }
 
-// Reads a chunk and sends it.
+// Reads what has arrived and sends it: nothing waits for a longer piece.
 fn turn(d: Decoder, told: u8) -> Onward {
     let mut octets = [0u8; 8000];
-    let got = io::read_full(STDIN_FILENO, &mut octets);
-    send(d, told, &octets[..got])
+    let got = libc::read(STDIN_FILENO, &mut octets);
+    if got < 0 {
+        os::fail(b"read");
+        return last(d);
+    }
+    let n = io::count(got, &octets);
+    if n == 0 {
+        return last(d);
+    }
+    send(d, told, &octets[..n])
 }
 
-// Turn after turn. A proved loop has to end, and nothing says that the input does: no run has so many chunks.
+// Piece after piece. A proved loop has to end, and nothing says that the input does: no run has so many pieces.
 fn run(told: u8) {
     let mut d = decoder::reset();
     let mut turns = u64::MAX;
@@ -99,9 +89,15 @@ fn run(told: u8) {
 
 fn main() {
     let told = told();
-    if 3 < told {
-        refusal::say(1, 0);
+    if told < 4 {
+        run(told as u8);
         return;
     }
-    run(told);
+    if told < 256 {
+        refusal::say(1, 0);
+    }
+    io::write_all(
+        STDERR_FILENO,
+        b"usage: decode MODE < octets > samples, where MODE is 0, 1, 2 or 3\n",
+    );
 }

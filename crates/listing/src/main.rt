@@ -4,10 +4,18 @@ ghost use Prim.Native.Nat.{_≤_};
 ghost use lib.ListN.{length};
 ghost use Rattle.lines.specs.Lines.{lineOf};
 ghost use Rattle.listing.specs.Listed.{listed};
+use g722::Decoder;
+use libc::STDERR_FILENO;
 use libc::STDIN_FILENO;
 use libc::STDOUT_FILENO;
 use lines::Line;
 use recording::Played;
+
+// What a block leaves: the decoder after it, and whether to read on.
+struct Onward {
+    next: Decoder,
+    more: bool,
+}
 
 // What the listing says of a block after so many others.
 fn listed(p: Played, before: u64) -> Line
@@ -35,24 +43,65 @@ fn print(line: Line) -> bool
     write_from(&bytes, line.at)
 }
 
-fn main() {
-    let mut samples = [0i16; 960];
+// After the last line.
+fn last(d: Decoder) -> Onward {
+    Onward {
+        next: d,
+        more: false,
+    }
+}
+
+// Plays a block, or a shorter last piece, and prints its line.
+fn list(d: Decoder, before: u64, block: &[u8], samples: &mut [i16]) -> Onward {
+    let p = recording::play(d, block, samples);
+    let next = p.next;
+    if !print(listed(p, before)) {
+        os::fail(b"write");
+        return last(next);
+    }
+    if p.number != 0 {
+        io::write_all(STDERR_FILENO, b"stopped at a block that is refused\n");
+        return last(next);
+    }
+    Onward {
+        next: next,
+        more: true,
+    }
+}
+
+// Reads a block and lists it. After a short one it asks once more, since a read that fails is not the end.
+fn turn(d: Decoder, before: u64, samples: &mut [i16]) -> Onward {
     let mut block = [0u8; 512];
+    let mut byte = [0u8; 1];
+    let got = io::read_full(STDIN_FILENO, &mut block);
+    if got < 512 && libc::read(STDIN_FILENO, &mut byte) < 0 {
+        os::fail(b"read");
+        return last(d);
+    }
+    if got == 0 {
+        return last(d);
+    }
+    list(d, before, &block[..got], samples)
+}
+
+// Block after block. A proved loop has to end, and nothing says that the input does: no recording has so many blocks.
+fn run() {
+    let mut samples = [0i16; 960];
     let mut d = decoder::reset();
     let mut before: u64 = 0;
-    while before < u64::MAX {
-        let got = io::read_full(STDIN_FILENO, &mut block);
-        if got == 0 {
-            break;
-        }
-        let p = recording::play(d, &block[..got], &mut samples);
-        if !print(listed(p, before)) {
-            break;
-        }
-        if p.number != 0 {
-            break;
-        }
-        d = p.next;
+    let mut more = true;
+    while more && before < u64::MAX {
+        let t = turn(d, before, &mut samples);
+        d = t.next;
+        more = t.more;
         before += 1;
     }
+}
+
+fn main() {
+    if os::arg_count() != 1 {
+        io::write_all(STDERR_FILENO, b"usage: listing < recording\n");
+        return;
+    }
+    run();
 }

@@ -1,14 +1,21 @@
 // What a program says of a refusal.
 ghost use mathlib.Core.Path.{_≡_};
+ghost use Prim.Native.Nat.{_≤_};
+ghost use lib.ListN.{length};
 use libc::STDERR_FILENO;
+
+// Writes to standard error the bytes from a place on.
+fn write_from(bytes: &[u8], at: usize)
+    requires { ⌜ at ≤ length (now bytes) ⌝ }
+{
+    io::write_all(STDERR_FILENO, &bytes[at..]);
+}
 
 // Writes the line `refused NUMBER INDEX` to standard error. It answers nothing; what is written no contract can say.
 pub fn say(number: u8, index: u64)
     ensures { λ r. ⌜ r ≡ tt ⌝ }
 {
-    io::write_all(STDERR_FILENO, b"refused ");
-    io::print_decimal(STDERR_FILENO, number as u64);
-    io::write_all(STDERR_FILENO, b" ");
-    io::print_decimal(STDERR_FILENO, index);
-    io::write_all(STDERR_FILENO, b"\n");
+    let line = lines::refused_line(number, index);
+    let bytes = line.bytes;
+    write_from(&bytes, line.at);
 }

@@ -1,7 +1,8 @@
-//! The second codec's programs: encode, decode, listing, material, tells, sequences.
+//! The second codec's programs: encode, decode, put, take, log, listing, material, tells, sequences.
 
 use second::material::{self, Stream};
-use second::{compare, listing, sequences, wrong, Coder, Decoder, Refusal, Wrong, MOST_OCTETS};
+use second::{blocks, compare, cue, listing, sequences, wrong};
+use second::{Coder, Decoder, Refusal, Wrong, MOST_OCTETS};
 use std::io::{self, Read, Write};
 use std::path::Path;
 use std::process::ExitCode;
@@ -28,6 +29,9 @@ impl From<io::Error> for Fault {
 const USAGE: &str = "\
 second encode [WRONG]            samples (two bytes, high first) to octets
 second decode MODE [WRONG]       octets to samples, mode 0 to 3
+second put MODE FILE             the bytes of a file into octets
+second take MODE                 the bytes out of octets
+second log TAKE MODE             octets to a recording
 second listing                   a recording to its lines
 second material KIND SEED N      N samples or octets
 second tells SEED                which material tells which wrong variant
@@ -50,6 +54,36 @@ fn variant(name: Option<&String>) -> Result<Wrong, Fault> {
     name.map_or(Ok(Wrong::None), |name| wrong::by_name(name).ok_or(Fault::Usage))
 }
 
+/// All of standard input.
+fn everything() -> io::Result<Vec<u8>> {
+    let mut bytes = Vec::new();
+    io::stdin().read_to_end(&mut bytes)?;
+    Ok(bytes)
+}
+
+/// The samples of whole pairs of bytes.
+fn samples_of(bytes: &[u8]) -> Vec<i16> {
+    bytes.chunks_exact(2).map(|pair| i16::from_be_bytes([pair[0], pair[1]])).collect()
+}
+
+/// A number of the arguments.
+fn number<T: std::str::FromStr>(word: &str) -> Result<T, Fault> {
+    word.parse().map_err(|_| Fault::Usage)
+}
+
+/// Codes and writes samples. Where one is refused, the pairs before it are written.
+fn code(coder: &mut Coder, samples: &[i16]) -> Result<(), Fault> {
+    let mut octets = vec![0; samples.len() / 2];
+    let done = coder.encode(samples, &mut octets);
+    if let Err(refusal) = done {
+        let whole = refusal.index / 2;
+        octets.truncate(whole);
+        coder.encode(&samples[..2 * whole], &mut octets)?;
+    }
+    io::stdout().write_all(&octets)?;
+    Ok(done?)
+}
+
 /// Codes standard input in calls of 8000 octets from reset.
 fn encode(wrong: Wrong) -> Result<(), Fault> {
     let mut coder = Coder::new(wrong);
@@ -57,13 +91,11 @@ fn encode(wrong: Wrong) -> Result<(), Fault> {
     loop {
         let bytes = piece(4 * MOST_OCTETS)?;
         let whole = &bytes[..bytes.len() / 4 * 4];
-        let samples: Vec<i16> =
-            whole.chunks(2).map(|pair| i16::from_be_bytes([pair[0], pair[1]])).collect();
-        let mut octets = vec![0; samples.len() / 2];
-        coder
-            .encode(&samples, &mut octets)
-            .map_err(|refusal| Refusal { index: refusal.index + before, ..refusal })?;
-        io::stdout().write_all(&octets)?;
+        let samples = samples_of(whole);
+        code(&mut coder, &samples).map_err(|fault| match fault {
+            Fault::Refused(r) => Refusal { index: r.index + before, ..r }.into(),
+            other => other,
+        })?;
         if whole.len() < bytes.len() {
             return Err(Refusal { number: 3, index: 0 }.into());
         }
@@ -90,20 +122,53 @@ fn decode(mode: &str, wrong: Wrong) -> Result<(), Fault> {
     }
 }
 
+/// Puts the bytes of a file into the octets on standard input, 1000 bytes a call.
+fn put(mode: u8, file: &str) -> Result<(), Fault> {
+    let bytes = std::fs::read(file)?;
+    let mut octets = everything()?;
+    let room = if mode == 3 { 4000 } else { 8000 };
+    for call in 0..=octets.len() / room {
+        let end = octets.len().min((call + 1) * room);
+        let part = &mut octets[call * room..end];
+        let data = bytes.len().min(call * 1000)..bytes.len().min((call + 1) * 1000);
+        cue::put_in(mode, part, &bytes[data])?;
+        io::stdout().write_all(part)?;
+    }
+    Ok(())
+}
+
+/// Takes the bytes out of the octets on standard input, 8000 octets a call.
+fn take(mode: u8) -> Result<(), Fault> {
+    let octets = everything()?;
+    for call in 0..=octets.len() / 8000 {
+        let part = &octets[call * 8000..octets.len().min((call + 1) * 8000)];
+        let mut bytes = vec![0; part.len() * if mode == 3 { 2 } else { 1 } / 8];
+        cue::take_out(mode, part, &mut bytes)?;
+        io::stdout().write_all(&bytes)?;
+    }
+    Ok(())
+}
+
+/// Writes the octets on standard input as blocks of at most 480.
+fn log(take: u32, mode: u8) -> Result<(), Fault> {
+    for (number, octets) in everything()?.chunks(480).enumerate() {
+        let mut block = [0; blocks::BLOCK];
+        blocks::write(&mut block, take, number as u32, mode, octets)?;
+        io::stdout().write_all(&block)?;
+    }
+    Ok(())
+}
+
 /// Lists the recording on standard input.
 fn list() -> Result<(), Fault> {
-    let mut recording = Vec::new();
-    io::stdin().read_to_end(&mut recording)?;
-    io::stdout().write_all(listing::listing(&recording, Wrong::None).as_bytes())?;
+    io::stdout().write_all(listing::listing(&everything()?, Wrong::None).as_bytes())?;
     Ok(())
 }
 
 /// Writes material of a kind.
 fn write_material(kind: &str, seed: &str, n: &str) -> Result<(), Fault> {
     let kind = material::by_name(kind).ok_or(Fault::Usage)?;
-    let seed = seed.parse().map_err(|_| Fault::Usage)?;
-    let n = n.parse().map_err(|_| Fault::Usage)?;
-    let bytes = match material::stream(kind, seed, n) {
+    let bytes = match material::stream(kind, number(seed)?, number(n)?) {
         Stream::Samples(samples) => bytes_of(&samples),
         Stream::Octets(octets) => octets,
     };
@@ -114,7 +179,7 @@ fn write_material(kind: &str, seed: &str, n: &str) -> Result<(), Fault> {
 /// Prints for each wrong variant the kinds that tell it, with the first octet
 /// (coder) or sample (decoder in modes 1, 2, 3 and changing) that differs.
 fn tells(seed: &str) -> Result<(), Fault> {
-    let material = material::material(seed.parse().map_err(|_| Fault::Usage)?);
+    let material = material::material(number(seed)?);
     let place = |at: Option<usize>| at.map_or("-".to_string(), |at| at.to_string());
     for wrong in wrong::ALL {
         for (kind, stream) in &material {
@@ -143,6 +208,9 @@ fn run(words: &[String]) -> Result<(), Fault> {
     match texts[..] {
         ["encode"] | ["encode", _] => encode(variant(words.get(1))?),
         ["decode", mode] | ["decode", mode, _] => decode(mode, variant(words.get(2))?),
+        ["put", mode, file] => put(number(mode)?, file),
+        ["take", mode] => take(number(mode)?),
+        ["log", take, mode] => log(number(take)?, number(mode)?),
         ["listing"] => list(),
         ["material", kind, seed, n] => write_material(kind, seed, n),
         ["tells", seed] => tells(seed),

@@ -1,16 +1,16 @@
--- `steady::main` is safe and ends: no more is counted than there are turns.
+-- `steady::count` is safe and ends: no more is counted than there are turns.
 use Prim.Native.Nat.{_≤_, _-_}
 use mathlib.Core.Logic.{⊎-elim}
 use native.Mathlib.Omega.{arith}
 use borrow.Author.Needs.{needs}
-use Rattle.steady.proofs.main.Statement.{statement}
-use Rattle.steady.proofs.main.Tie as tie
+use Rattle.steady.proofs.count.Statement.{statement}
+use Rattle.steady.proofs.count.Tie as tie
 
 abbrev Inv-loop : tie.InvT-loop
-Inv-loop held₀ c₀ k₀ t4 held c k = (k ≤ 32768) × (held ≤ k)
+Inv-loop more high held₀ c₀ k₀ held c k = (k ≤ 32768) × (held ≤ k)
 
 abbrev μ-loop : tie.MeasureT-loop
-μ-loop held₀ c₀ k₀ t4 held c k = 32768 - k
+μ-loop more high held₀ c₀ k₀ held c k = 32768 - k
 
 loop-holds : tie.Need-loop-holds Inv-loop μ-loop
 loop-holds c = (omega arith, omega arith)
@@ -18,20 +18,18 @@ loop-holds c = (omega arith, omega arith)
 loop-again : tie.Need-loop-again Inv-loop μ-loop
 loop-again c = ⊎-elim (λ w. (omega arith, omega arith)) (λ w. (omega arith, omega arith)) (c .before .if1 .came)
 
-pub main-spec : {M : Type 1} → statement M
-main-spec =
+pub count-spec : {M : Type 1} → statement M
+count-spec =
     tie.close
     (tie.spec
     Inv-loop
     μ-loop
     loop-holds
     (λ c κs. tt)
+    (λ c κs. tt)
     (λ c. omega arith)
     (λ c κs. tt)
     (λ c. omega arith)
     (λ c. omega arith)
     loop-again
-    (λ c κs. tt)
-    (λ c. search needs)
-    (λ c κs. tt)
     (λ c. tt))

@@ -1,0 +1,2 @@
+-- A number in decimal digits, as an argument gives it.
+pub mod Number

@@ -1,0 +1,106 @@
+// Walks a recording, lent as a whole, by the reader, and writes the lines of the listing. A recording of up to 128 blocks is read.
+ghost use mathlib.Core.Path.{_≡_};
+ghost use Prim.Native.Nat.{_≤_};
+ghost use lib.ListN.{length};
+ghost use Rattle.recording.specs.Walk.{stepAt, nextAt};
+use g722::Decoder;
+use libc::STDERR_FILENO;
+use libc::STDIN_FILENO;
+use libc::STDOUT_FILENO;
+use lines::Line;
+use recording::Reader;
+use recording::Step;
+
+// What the reader says at first.
+fn first(src: &[u8]) -> Step
+    ensures { λ r. ⌜ r ≡ stepAt (now (src .entry)) 0 ⌝ }
+{
+    recording::next(recording::new(src))
+}
+
+// What the reader says after it moved on from block number `at`.
+fn after(src: &[u8], at: usize) -> Step
+    ensures { λ r. ⌜ r ≡ stepAt (now (src .entry)) (nextAt (now (src .entry)) at) ⌝ }
+{
+    recording::next(recording::moved_on(Reader { src, at }))
+}
+
+// Writes out the bytes from a place on.
+fn write_from(bytes: &[u8], at: usize) -> bool
+    requires { ⌜ at ≤ length (now bytes) ⌝ }
+{
+    io::write_all(STDOUT_FILENO, &bytes[at..])
+}
+
+// Writes a line out.
+fn print(line: Line) -> bool
+    requires { ⌜ line .at ≤ 160 ⌝ }
+{
+    let bytes = line.bytes;
+    write_from(&bytes, line.at)
+}
+
+// The line of what the reader says of a block, with the samples at its ends; or of a refusal after so many others.
+fn line(s: Step, first: i16, last: i16, before: usize) -> Line
+    ensures { λ r. ⌜ r .at ≤ 160 ⌝ }
+{
+    let b = s.block;
+    let number = b.number;
+    if number != 0 {
+        return lines::refused_line(number, before as u64);
+    }
+    lines::block_line(b.take, b.block, b.mode, b.count, first, last)
+}
+
+// What a block leaves: the decoder after it, and whether to walk on.
+struct Onward {
+    next: Decoder,
+    more: bool,
+}
+
+// Plays a whole block and prints the line of what the reader says of it.
+fn list(d: Decoder, s: Step, before: usize, block: &[u8], samples: &mut [i16]) -> Onward {
+    let p = recording::play(d, block, samples);
+    let next = p.next;
+    let printed = print(line(s, p.first, p.last, before));
+    if p.number != 0 {
+        io::write_all(STDERR_FILENO, b"stopped at a block that is refused\n");
+    }
+    Onward {
+        next: next,
+        more: printed && p.number == 0,
+    }
+}
+
+// Past the last whole block: the end, or a shorter piece.
+fn finish(s: Step, before: usize) {
+    if !s.end {
+        print(line(s, 0, 0, before));
+        io::write_all(STDERR_FILENO, b"stopped at a block that is refused\n");
+    }
+}
+
+// Walks over the whole blocks and to the end.
+fn run(src: &[u8]) {
+    let mut samples = [0i16; 960];
+    let mut d = decoder::reset();
+    let mut s = first(src);
+    let mut at: usize = 0;
+    while at < src.len() / 512 {
+        let from = 512 * at;
+        let t = list(d, s, at, &src[from..from + 512], &mut samples);
+        if !t.more {
+            return;
+        }
+        d = t.next;
+        s = after(src, at);
+        at += 1;
+    }
+    finish(s, at);
+}
+
+fn main() {
+    let mut bytes = io::large_buffer();
+    let n = io::read_full(STDIN_FILENO, &mut bytes);
+    run(&bytes[..n]);
+}
