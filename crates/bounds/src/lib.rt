@@ -1,4 +1,4 @@
-// The bounds of records and of samples: document 01, "State and its bounds".
+// The bounds of records and of samples: SCOPE 2 and 14 to 22.
 ghost use mathlib.Core.Path.{_≡_};
 ghost use mathlib.Core.Bool.{_&&_};
 ghost use Rattle.g722.specs.Coding.{misfit};

@@ -1,4 +1,4 @@
-// The coding call: samples to octets, with every refusal of document 01.
+// The coding call: samples to octets, with its refusals 3, 2, 4 (SCOPE 8).
 mod pair;
 
 ghost use mathlib.Core.Path.{_≡_};

@@ -1,4 +1,4 @@
-// The decoding call: octets to samples in a told mode, with every refusal of document 01.
+// The decoding call: octets to samples in a told mode, with its refusals 1, 3, 2 (SCOPE 8).
 mod octet;
 
 ghost use mathlib.Core.Path.{_≡_};

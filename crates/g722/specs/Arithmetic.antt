@@ -1,4 +1,4 @@
--- The arithmetic of section 6 of source 003, with what document 01 fixes.
+-- The arithmetic of G.722 (11/88), 6.2, with what SCOPE 23 to 26 fix.
 -- Assumes nothing.
 use mathlib.Core.Bool.{Bool, not, cond, _&&_}
 use Prim.Native.Nat.{ℕ, _^_}

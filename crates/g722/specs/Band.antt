@@ -1,4 +1,4 @@
--- The adaptive predictor, block 4 of section 6.2 of source 003: one for both bands and both ends.
+-- The adaptive predictor, block 4 of G.722 (11/88), 6.2.1.4 and 6.2.2.4: one for both bands and both ends.
 -- `d` is the quantised difference of the loop, DLT or DH.
 -- Assumes nothing.
 use mathlib.Core.Bool.{cond}

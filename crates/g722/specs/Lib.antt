@@ -1,4 +1,4 @@
--- The meaning of G.722 as document 01 fixes it, in the Recommendation's order.
+-- The meaning of G.722 (11/88) as SCOPE fixes it, in the Recommendation's order.
 pub mod Arithmetic
 pub mod Tables
 pub mod Words

@@ -1,4 +1,4 @@
--- The two mirror filters, section 5 of source 003, with the exact sums that document 01 fixes.
+-- The two mirror filters, G.722 (11/88), 5.2, with the exact sums of SCOPE 38 to 42.
 -- Assumes nothing.
 use mathlib.Core.List.{List}
 use Prim.Native.Nat.{ℕ, zero, suc, _+_, _*_, _-_}

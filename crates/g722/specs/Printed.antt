@@ -1,4 +1,4 @@
--- Tables 4 to 8 and 16 to 21 of source 003 as printed. No definition leans on them: Checks.antt holds the definitions against them.
+-- Tables 4 to 8 and 16 to 21 of G.722 (11/88) as printed. No definition leans on them: Checks.antt holds the definitions against them.
 -- Assumes nothing.
 use mathlib.Core.List.{List, [], _∷_}
 use Prim.Native.Nat.{ℕ}

@@ -1,4 +1,4 @@
--- Quantising, inverse quantising and the scale factors: blocks 1, 2, 3 and 5 of section 6.2 of source 003, for both bands.
+-- Quantising, inverse quantising and the scale factors: blocks 1, 2, 3 and 5 of G.722 (11/88), 6.2, for both bands (SCOPE 26 to 35).
 -- Assumes nothing.
 use mathlib.Core.Bool.{cond}
 use mathlib.Core.List.{List, [], _∷_, map}
@@ -55,7 +55,7 @@ invqah ih deth = inverse qq2 (fromTwo ih) deth
 unfoldable pub inForce : ℕ → ℕ
 inForce told = cond (eqb told 0) 1 told
 
--- INVQBL: the difference that is heard, by the mode
+-- INVQBL: the difference that is heard, by the mode in force. A number that is no mode is taken as 3; no call hands one on
 unfoldable pub invqbl : ℕ → ℕ → ℤ → ℤ
 invqbl mode ilr detl =
     cond (eqb mode 1) (inverse qq6 (fromSix ilr) detl)

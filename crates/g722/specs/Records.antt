@@ -1,4 +1,4 @@
--- The records' bounds and their reset: document 01, "State and its bounds".
+-- The records' bounds and their reset: SCOPE 14 to 22.
 -- Assumes nothing.
 use mathlib.Core.Bool.{Bool, true, _&&_}
 use mathlib.Core.List.{List, [], _∷_}

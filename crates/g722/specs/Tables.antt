@@ -1,4 +1,4 @@
--- Tables 11, 14 and 15 of source 003 as printed.
+-- Tables 11, 14 and 15 of G.722 (11/88) as printed.
 -- A list's first entry stands at address 0; where a column begins at address 1 the empty cell is `blank`.
 -- Assumes nothing.
 use mathlib.Core.List.{List, [], _∷_}

@@ -1,4 +1,4 @@
--- Tables 16 to 21 of source 003, decided over ranges of the word. Checks.antt holds them against the tables as printed.
+-- Tables 16 to 21 of G.722 (11/88), decided over ranges of the word (SCOPE 29 to 31). Checks.antt holds them against the tables as printed.
 -- Assumes nothing.
 use mathlib.Core.Bool.{true, false, cond}
 use Prim.Native.Nat.{ℕ, _-_}

@@ -1,4 +1,4 @@
-// The records of G.722 (source 003, section 6) as document 01 lists them, and the answers of the calls. Types only.
+// The records of G.722 (11/88), section 6, as SCOPE 14 to 16 list them, and the answers of the calls. Types only.
 // Time runs left to right in every array: the oldest stands first, so b[5] is BL1 and d[5] is DLT1.
 
 // The transversal part of a predictor: six coefficients and the six past quantised differences that they meet.
@@ -56,7 +56,7 @@ pub struct Interval {
     pub number: u8,
 }
 
-// The answers: document 01's number, the index that number 4 gives a place, and the next record.
+// The answers: the number of SCOPE 7, the index that number 4 gives a place (SCOPE 11), and the next record.
 pub struct Coded {
     pub number: u8,
     pub index: usize,

@@ -51,7 +51,7 @@ pub fn in_force(told: u8) -> u8
     told
 }
 
-// INVQBL: the difference that is heard, by the mode.
+// INVQBL: the difference that is heard, by the mode in force. A number that is no mode is taken as 3; no call hands one on.
 pub fn invqbl(mode: u8, ilr: u8, detl: i16) -> i16
     ensures { λ r. ⌜ r ≡ invqbl mode ilr detl ⌝ }
 {

@@ -38,17 +38,14 @@ runs =
     ∷ (drop 92 (heard 3 anyOctets)
     gives (pos 733 ∷ neg 1642 ∷ neg 2821 ∷ neg 1228 ∷ pos 1257 ∷ pos 3041 ∷ pos 2890 ∷ pos 951 ∷ []))
     ∷ (drop 42 (sent loud) gives these (0x84 ∷ 0x0B ∷ 0x91 ∷ 0x19 ∷ 0x0D ∷ 0xC6 ∷ 0x3A ∷ 0x13 ∷ []))
+    -- FILTEZ: the low signal of octet 139. With one stop, or in the other order, it is 15805
+    ∷ ((rlOf 1 (decoderAfter 1 resetDecoder (replicate 137 0x20 ++ replicate 2 0x04) .low) 0x04 ∷ []) gives (pos 15644 ∷ []))
     ∷ (drop 42 (sent quiet) gives these (0xD2 ∷ 0x5B ∷ 0x9D ∷ 0x7E ∷ 0x5C ∷ 0xD5 ∷ 0x3B ∷ 0x1D ∷ []))
     ∷ []
 
 pub runs-hold : Hold runs
 unfolding runs noise meaning
 runs-hold = all-hold runs refl
-
--- FILTEZ from reset: the low signal of octet 139. With one stop, or in the other order, it is 15805
-pub filtez-run : Hold ((rlOf 1 (decoderAfter 1 resetDecoder (replicate 137 0x20 ++ replicate 2 0x04) .low) 0x04 ∷ [] gives pos 15644 ∷ []) ∷ [])
-unfolding meaning
-filtez-run = (refl, tt)
 
 -- whole calls: 8000 octets are taken, and no more
 pub calls : List Case

@@ -27,7 +27,8 @@ returns-2 c =
 
 -- past the second test
 fits : (e : tie.Else2)
-    → let args = e .before .before .before .before .before .args in misfit (length (args .samples .now)) (length (args .octets .now)) ≡ false
+    → let args = e .before .before .before .before .before .args in
+    misfit (length (args .samples .now)) (length (args .octets .now)) ≡ false
 fits e = sym (e .before .before .before .misfit .ensures) ∙ e .if2 .left
 
 returns-3 : tie.Need-returns-3
@@ -46,7 +47,8 @@ returns-4 c =
     let e = f .before in
     let args = e .before .before .before .before .before .before .args in
     let told = f .in-force .ensures in
-    does (call-done _ _ _ _ (omega arith) (fits (e .before)) (sym (e .before .before .before .good-decoder .ensures) ∙ not-false _ (e .if3 .left)))
+    let good = sym (e .before .before .before .good-decoder .ensures) ∙ not-false _ (e .if3 .left) in
+    does (call-done _ _ _ _ (omega arith) (fits (e .before)) good)
     (c .answer4 .ensures ∙ ap (λ (s : Decoder). record { number = 0; index = 0; next = s })
     (r .run .ensures .answer ∙ ap (λ (m : ℕ). decoderAfter m (args .d) (args .octets .now)) told))
     (r .run .ensures .left ∙ ap (λ (m : ℕ). samplesOf m (args .d) (args .octets .now)) told)
