@@ -14,6 +14,7 @@ use Rattle.g722.specs.Quantise.{subtra, level, quantise, quanth, invqal,
 use Rattle.g722.specs.Band.{slide, sums, filtep, predic, parrec, recons, upzero, four, turned, uppol2, uppol1, nextPoles, nextBand}
 use Rattle.g722.specs.Band.{lowAfter, highAfter}
 use Rattle.g722.specs.Mirror.{lowt, hight, accumc, accumd}
+use Rattle.g722.specs.Octet.{highWord}
 use Rattle.g722.specs.Records.{resetBand, resetCoder, resetDecoder}
 use Rattle.g722.specs.Coding.{coderStep, misfit, codeCall}
 use Rattle.g722.specs.Decoding.{rlOf, rhOf, decoderStep, decodeCall}
@@ -139,10 +140,13 @@ abbrev outputs : List ℤ → List ℤ → List ℤ
 outputs rl rh = accumc rl rh ∷ accumd rl rh ∷ []
 
 -- samples and octets to run over, and the records after their first two pairs, and octets
-abbrev sixteen : List ℤ
-sixteen =
+abbrev forty : List ℤ
+forty =
     pos 900 ∷ neg 700 ∷ neg 500 ∷ pos 300 ∷ pos 8000 ∷ neg 16000 ∷ pos 12345 ∷ neg 1
-    ∷ pos 16383 ∷ neg 16384 ∷ pos 5 ∷ pos 7000 ∷ neg 3000 ∷ pos 250 ∷ neg 9999 ∷ pos 4321 ∷ []
+    ∷ pos 16383 ∷ neg 16384 ∷ pos 5 ∷ pos 7000 ∷ neg 3000 ∷ pos 250 ∷ neg 9999 ∷ pos 4321
+    ∷ pos 5823 ∷ pos 6258 ∷ pos 5805 ∷ pos 7640 ∷ neg 2778 ∷ neg 2950 ∷ pos 7774 ∷ pos 6589
+    ∷ neg 2900 ∷ neg 5916 ∷ pos 5633 ∷ pos 941 ∷ neg 4354 ∷ neg 6029 ∷ pos 8651 ∷ neg 7628
+    ∷ pos 3981 ∷ pos 5843 ∷ neg 3840 ∷ neg 8509 ∷ pos 8313 ∷ neg 6931 ∷ neg 7049 ∷ neg 7832 ∷ []
 
 abbrev twelve : List ℕ
 twelve = 0x04 ∷ 0x20 ∷ 0x84 ∷ 0xA0 ∷ 0x04 ∷ 0xE4 ∷ 0x21 ∷ 0x9B ∷ 0x60 ∷ 0x05 ∷ 0xC8 ∷ 0x37 ∷ []
@@ -184,6 +188,7 @@ quantising =
     gives (neg 758 ∷ neg 713 ∷ neg 625 ∷ []))
     ∷ ((subtra (pos 5) (pos 3) ∷ []) gives (pos 2 ∷ []))
     ∷ (heard 0 (0xFF ∷ []) gives (neg 1 ∷ pos 0 ∷ []))
+    ∷ (these (map highWord (0x3F ∷ 0x40 ∷ 0xBF ∷ 0xC0 ∷ [])) gives these (0 ∷ 1 ∷ 2 ∷ 3 ∷ []))
     ∷ ((logscl 0b111100 (pos 0) ∷ logsch 0b11 (pos 0) ∷ logsch 0b10 (pos 22528) ∷ []) gives (pos 0 ∷ pos 0 ∷ pos 22528 ∷ []))
     ∷ ((logscl 0b111100 (pos 18367) ∷ logsch 0b11 (pos 18367) ∷ []) gives (pos 18163 ∷ pos 18009 ∷ []))
     ∷ []
@@ -259,6 +264,9 @@ stepping =
     ((recons swung (pos 1000) ∷ rlOf 1 swung 0xE0 ∷ rhOf swung 0xE0 ∷ []) gives (pos 32767 ∷ pos 16383 ∷ pos 16383 ∷ []))
     ∷ (summary (lowAfter (scaled (pos 5000) (pos 100)) 0b100000) ++ summary (highAfter (scaled (pos 5000) (pos 100)) 0b10)
     gives (pos 62 ∷ pos 8002 ∷ pos 476 ∷ pos 22 ∷ pos 5758 ∷ pos 52 ∷ []))
+    -- the pair is sent as 0xDB, that is by the words 11 and 011011
+    ∷ (flat (coderStep resetCoder (pos 900) (neg 700) .low) gives flat (lowAfter low 0b011011))
+    ∷ (flat (coderStep resetCoder (pos 900) (neg 700) .high) gives flat (highAfter high 0b11))
     ∷ (coderStep resetCoder (pos 5) (pos 6) .past gives replicate 20 (pos 0) ++ (pos 5 ∷ pos 6 ∷ []))
     ∷ (decoderStep 1 resetDecoder 0x04 .past .rl gives replicate 10 (pos 0) ++ (neg 25 ∷ []))
     ∷ (decoderStep 1 resetDecoder 0x04 .past .rh gives replicate 10 (pos 0) ++ (neg 2 ∷ []))
@@ -273,15 +281,17 @@ stepping-hold = all-hold stepping refl
 -- a short run at either end, in each mode, as the second codec has it; and the record that a call of two pairs ends with
 pub running : List Case
 running =
-    (sent sixteen gives these (0xDB ∷ 0x2A ∷ 0x84 ∷ 0x20 ∷ 0x85 ∷ 0x21 ∷ 0x8F ∷ 0x23 ∷ []))
+    (sent forty
+    gives these (0xDB ∷ 0x2A ∷ 0x84 ∷ 0x20 ∷ 0x85 ∷ 0x21 ∷ 0x8F ∷ 0x23 ∷ 0x0F ∷ 0x20
+    ∷ 0x0D ∷ 0xB0 ∷ 0x8E ∷ 0xB6 ∷ 0x21 ∷ 0xB5 ∷ 0x2F ∷ 0xB0 ∷ 0x1A ∷ 0x9E ∷ []))
     ∷ (drop 12 (heard 1 twelve)
     gives (pos 0 ∷ pos 210 ∷ neg 19 ∷ neg 420 ∷ pos 42 ∷ pos 720 ∷ pos 69 ∷ neg 1069 ∷ neg 1085 ∷ pos 309 ∷ pos 3799 ∷ pos 6601 ∷ []))
     ∷ (drop 12 (heard 2 twelve)
     gives (pos 1 ∷ pos 196 ∷ neg 20 ∷ neg 388 ∷ pos 42 ∷ pos 656 ∷ pos 67 ∷ neg 950 ∷ neg 1049 ∷ pos 151 ∷ pos 3725 ∷ pos 6856 ∷ []))
     ∷ (drop 12 (heard 3 twelve)
     gives (pos 1 ∷ pos 173 ∷ neg 18 ∷ neg 345 ∷ pos 38 ∷ pos 583 ∷ pos 53 ∷ neg 846 ∷ neg 901 ∷ pos 194 ∷ pos 3365 ∷ pos 6069 ∷ []))
-    ∷ (codeCall resetCoder (take 4 sixteen) (0 ∷ 0 ∷ []) .answer .next .past gives replicate 18 (pos 0) ++ take 4 sixteen)
-    ∷ (flat (codeCall resetCoder (take 4 sixteen) (0 ∷ 0 ∷ []) .answer .next .low) gives flat (afterTwo .low))
+    ∷ (codeCall resetCoder (take 4 forty) (0 ∷ 0 ∷ []) .answer .next .past gives replicate 18 (pos 0) ++ take 4 forty)
+    ∷ (flat (codeCall resetCoder (take 4 forty) (0 ∷ 0 ∷ []) .answer .next .low) gives flat (afterTwo .low))
     ∷ (decodeCall resetDecoder 1 (take 2 twelve) (replicate 4 (pos 0)) .answer .next .past .rl gives heardTwo .past .rl)
     ∷ []
 
@@ -364,6 +374,8 @@ cueing =
     ∷ (moves (putCall 3 [] []) gives these (0 ∷ 0 ∷ []))
     ∷ (moves (takeCall 3 (0xFA ∷ 0xFB ∷ 0xF8 ∷ 0xF9 ∷ []) (9 ∷ [])) gives these (0 ∷ 0 ∷ 0xB1 ∷ []))
     ∷ (moves (takeCall 2 (0xFB ∷ replicate 6 0xFA ++ (0xFB ∷ [])) (9 ∷ [])) gives these (0 ∷ 0 ∷ 0x81 ∷ []))
+    ∷ (moves (takeCall 2 (replicate 4 0xFA ++ replicate 5 0xFB ++ replicate 6 0xFA ++ (0xFB ∷ [])) (9 ∷ 9 ∷ []))
+    gives these (0 ∷ 0 ∷ 0x0F ∷ 0x81 ∷ []))
     ∷ (truths (unfilled 2 8000 1000 ∷ unfilled 2 8008 1001 ∷ unfilled 3 8000 2000 ∷ unfilled 3 8004 2001 ∷ [])
     gives these (0 ∷ 1 ∷ 0 ∷ 1 ∷ []))
     ∷ []
