@@ -1,4 +1,4 @@
-/* What both programs share: the octets of a call, and standard input and output as a whole. */
+/* What the programs share: the octets of a call, and standard input and output as a whole. */
 #include <stdio.h>
 
 #define CALL 160

@@ -6,3 +6,4 @@ pub mod Upper
 pub mod Told
 pub mod Range
 pub mod Good
+pub mod Fits

@@ -11,3 +11,4 @@ pub mod Size
 pub mod Back
 pub mod Turns
 pub mod Filled
+pub mod Parts

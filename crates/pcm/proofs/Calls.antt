@@ -1,39 +1,26 @@
 -- Laws of a chunk's two calls, on plain values.
 -- Assumes nothing.
 use mathlib.Core.Path.{_≡_, refl}
-use mathlib.Core.List.{List, append-nil}
-use Prim.Native.Nat.{ℕ, _*_, _/_, _≤_, _<_, min}
+use mathlib.Core.Bool.{false}
+use mathlib.Core.List.{List}
+use Prim.Native.Nat.{ℕ, _*_, _≤_, _<_}
 use native.Mathlib.Omega.{arith}
 use borrow.Author.Tests.{lt-ltb, le-ltb, eq-eqb, ne-eqb}
 use lib.Dec.{ltb, eqb}
 use lib.IntN.{ℤ}
-use lib.ListN.{length, take, drop-of-length-le}
-use lib.Seq.{take-all, length-take-le}
+use lib.ListN.{length, take}
+use lib.Seq.{length-take-le}
 use Rattle.laws.specs.Order.{by-test}
 use Rattle.laws.specs.Outcome.{Outcome}
 use Rattle.g722.specs.Quantise.{inForce}
-use Rattle.g722.specs.Records.{goodDecoder}
+use Rattle.g722.specs.Records.{goodCoder, goodDecoder}
 use Rattle.g722.specs.Coding.{misfit, notCoded, codeCall}
 use Rattle.g722.specs.Decoding.{notDecoded, decoded, decodeCall}
 use Rattle.g722.specs.declared.Coder.{Coder}
 use Rattle.g722.specs.declared.Decoder.{Decoder}
 use Rattle.g722.specs.declared.Decoded.{Decoded}
-use Rattle.pcm.specs.Bytes.{pcmSamples, pcmBytes, loaded, loadCall, stored, storeCall}
+use Rattle.pcm.specs.Bytes.{pcmSamples, samples-length}
 use Rattle.pcm.specs.Chunks.{encodeChunk, notStored, asBytes, decodeChunk}
-
--- ---- where the lengths meet, a load reads all bytes and a store writes all
-
-pub load-all : (b : List ℕ) (s : List ℤ) → length b ≡ 2 * length s → loadCall b s .left ≡ pcmSamples b
-unfolding loadCall loaded
-load-all b s h =
-    let e : min (length b / 2) (length s) ≡ length s = omega arith in
-    rw (e, take-all (2 * length s) b (omega arith), drop-of-length-le s {i = length s} (omega arith)) (append-nil (pcmSamples b))
-
-pub store-all : (s : List ℤ) (b : List ℕ) → length b ≡ 2 * length s → storeCall s b .left ≡ pcmBytes s
-unfolding storeCall stored
-store-all s b h =
-    let e : min (length s) (length b / 2) ≡ length s = omega arith in
-    rw (e, take-all (length s) s (omega arith), drop-of-length-le b {i = 2 * length s} (omega arith)) (append-nil (pcmBytes s))
 
 -- a part of the samples that has two for each octet
 pub part : (n b : ℕ) (z : List ℤ) → b ≡ 4 * n → 2 * n ≤ length z → b ≡ 2 * length (take (2 * n) z)
@@ -54,6 +41,12 @@ module _ (c : Coder) (b o : List ℕ) where
   unfolding encodeChunk
   encode-even k = simp (eq-eqb _ _ k)
 
+  pub encode-broken : length o ≤ 8000 → length b ≡ 4 * length o → goodCoder c ≡ false → encodeChunk c b o ≡ notCoded 2 0 c o
+  unfolding encodeChunk codeCall misfit
+  encode-broken h k g =
+      let pairs = samples-length (2 * length o) b (omega arith) in
+      simp (eq-eqb _ _ k, le-ltb _ _ h, eq-eqb _ _ pairs, g)
+
 -- ---- the decoding call, case by case
 
 module _ (d : Decoder) (told : ℕ) (o b : List ℕ) where
@@ -68,6 +61,11 @@ module _ (d : Decoder) (told : ℕ) (o b : List ℕ) where
   pub decode-uneven : told ≤ 3 → length o ≤ 8000 → (length b ≡ 4 * length o → ⊥) → decodeChunk d told o b ≡ notStored 3 d b
   unfolding decodeChunk
   decode-uneven t h k = simp (le-ltb _ _ t, le-ltb _ _ h, ne-eqb _ _ k)
+
+  pub decode-broken : told ≤ 3 → length o ≤ 8000 → length b ≡ 4 * length o → goodDecoder d ≡ false
+      → decodeChunk d told o b ≡ notStored 2 d b
+  unfolding decodeChunk
+  decode-broken t h k g = simp (le-ltb _ _ t, le-ltb _ _ h, eq-eqb _ _ k, g)
 
   -- beside the call on samples, where the lengths meet
   module _ (s : List ℤ) (h : length s ≡ 2 * length o) (k : length b ≡ 4 * length o) where

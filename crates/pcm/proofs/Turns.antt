@@ -7,10 +7,7 @@ use native.Mathlib.Numerals.{add-one}
 use native.Mathlib.Omega.{arith}
 use lib.IntN.{ℤ, pos}
 use lib.ListN.{length, getD, set}
-use Rattle.pcm.specs.Bytes.{sampleOf, pcmSamples, highOf, lowOf, pcmBytes, loaded, stored}
-
-two-more : (i : ℕ) → 2 * suc i ≡ suc (suc (2 * i))
-two-more i = omega arith
+use Rattle.pcm.specs.Bytes.{sampleOf, pcmSamples, highOf, lowOf, pcmBytes, loaded, stored, two-more}
 
 low-more : (i : ℕ) → 2 * suc i + 1 ≡ suc (suc (2 * i + 1))
 low-more i = omega arith

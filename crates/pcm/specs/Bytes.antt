@@ -2,12 +2,13 @@
 -- Assumes nothing.
 use mathlib.Core.Path.{_≡_, refl, ap, ap₂}
 use mathlib.Core.Bool.{cond}
-use mathlib.Core.List.{List, [], _∷_, _++_}
+use mathlib.Core.List.{List, [], _∷_, _++_, append-nil}
 use Prim.Native.Nat.{ℕ, zero, suc, _+_, _-_, _*_, _/_, _%_, _<_, min}
 use native.Mathlib.Omega.{arith}
 use lib.Dec.{ltb}
 use lib.IntN.{ℤ, pos, negsuc, _-ℤ_}
-use lib.ListN.{length, getD, take, drop}
+use lib.ListN.{length, getD, take, drop, drop-of-length-le}
+use lib.Seq.{take-all}
 use lib.Signed.{mag}
 use borrow.Author.Tests.{lt-ltb, le-ltb}
 use Rattle.laws.specs.Order.{by-test}
@@ -92,3 +93,54 @@ bytes-of-samples m (high ∷ low ∷ rest) e h =
     let l : (256 * high + low) % 256 ≡ low = omega arith in
     rw (word-of-sample high low a b, k, l)
     (ap (λ (r : List ℕ). high ∷ low ∷ r) (bytes-of-samples (m - 1) rest (omega arith) (λ i j. h (suc (suc i)) (omega arith))))
+
+-- ---- where the lengths meet, a load reads all bytes and a store writes all
+
+pub load-all : (b : List ℕ) (s : List ℤ) → length b ≡ 2 * length s → loadCall b s .left ≡ pcmSamples b
+unfolding loadCall loaded
+load-all b s h =
+    let e : min (length b / 2) (length s) ≡ length s = omega arith in
+    rw (e, take-all (2 * length s) b (omega arith), drop-of-length-le s {i = length s} (omega arith)) (append-nil (pcmSamples b))
+
+pub store-all : (s : List ℤ) (b : List ℕ) → length b ≡ 2 * length s → storeCall s b .left ≡ pcmBytes s
+unfolding storeCall stored
+store-all s b h =
+    let e : min (length s) (length b / 2) ≡ length s = omega arith in
+    rw (e, take-all (length s) s (omega arith), drop-of-length-le b {i = 2 * length s} (omega arith)) (append-nil (pcmBytes s))
+
+-- ---- in parts
+
+pub two-more : (i : ℕ) → 2 * suc i ≡ suc (suc (2 * i))
+two-more i = omega arith
+
+pub samples-of-first : (n : ℕ) (b : List ℕ) → pcmSamples (take (2 * n) b) ≡ take n (pcmSamples b)
+unfolding pcmSamples
+samples-of-first zero b = refl
+samples-of-first (suc n) [] = rw (two-more n) refl
+samples-of-first (suc n) (high ∷ []) = rw (two-more n) refl
+samples-of-first (suc n) (high ∷ low ∷ rest) =
+    rw (two-more n) (ap (λ (l : List ℤ). sampleOf high low ∷ l) (samples-of-first n rest))
+
+pub samples-of-rest : (n : ℕ) (b : List ℕ) → pcmSamples (drop (2 * n) b) ≡ drop n (pcmSamples b)
+unfolding pcmSamples
+samples-of-rest zero b = refl
+samples-of-rest (suc n) [] = rw (two-more n) refl
+samples-of-rest (suc n) (high ∷ []) = rw (two-more n) refl
+samples-of-rest (suc n) (high ∷ low ∷ rest) = rw (two-more n) (samples-of-rest n rest)
+
+pub bytes-join : (s t : List ℤ) → pcmBytes (s ++ t) ≡ pcmBytes s ++ pcmBytes t
+unfolding pcmBytes
+bytes-join [] t = refl
+bytes-join (z ∷ s) t = ap (λ (l : List ℕ). highOf z ∷ lowOf z ∷ l) (bytes-join s t)
+
+pub bytes-length : (s : List ℤ) → length (pcmBytes s) ≡ 2 * length s
+unfolding pcmBytes
+bytes-length [] = refl
+bytes-length (z ∷ s) = let h = bytes-length s in omega arith
+
+pub samples-length : (m : ℕ) (b : List ℕ) → length b ≡ 2 * m → length (pcmSamples b) ≡ m
+unfolding pcmSamples
+samples-length m [] e = omega arith
+samples-length m (x ∷ []) e = absurd (omega arith)
+samples-length zero (x ∷ y ∷ b) e = absurd (omega arith)
+samples-length (suc m) (x ∷ y ∷ b) e = ap suc (samples-length m b (omega arith))

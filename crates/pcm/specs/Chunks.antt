@@ -4,7 +4,7 @@ use mathlib.Core.Bool.{cond, _||_, not}
 use mathlib.Core.List.{List, [], _∷_}
 use Prim.Native.Nat.{ℕ, _*_, _≤_, zero-le, suc-le-suc}
 use native.Mathlib.Omega.{arith}
-use borrow.Author.Tests.{eqb-true}
+use borrow.Author.Tests.{eqb-true, ltb-false}
 use lib.Dec.{ltb, eqb}
 use lib.IntN.{ℤ}
 use lib.ListN.{length}
@@ -67,3 +67,10 @@ index-within c b o =
     by-test (eqb (length b) (4 * length o))
     (λ e. rw e (omega (arith, eqb-true (length b) (4 * length o) e, call-within c (pcmSamples b) o, samples-within b)))
     (λ e. rw e zero-le)
+
+pub index-small : (c : Coder) (b o : List ℕ) → encodeChunk c b o .answer .index ≤ 16000
+unfolding encodeChunk codeCall misfit notCoded
+index-small c b o =
+    by-test (ltb 8000 (length o))
+    (λ e. by-test (eqb (length b) (4 * length o)) (λ f. rw (f, e) zero-le) (λ f. rw f zero-le))
+    (λ e. omega (arith, ltb-false 8000 (length o) e, index-within c b o))

@@ -8,10 +8,16 @@ ghost use Rattle.pcm.specs.Bytes.{pcmSamples};
 ghost use Rattle.pcm.specs.Chunks.{encodeChunk, decodeChunk};
 use crate::load;
 use crate::store;
+use coder::good_coder;
+use decoder::good_decoder;
 use g722::Coded;
 use g722::Coder;
 use g722::Decoded;
 use g722::Decoder;
+
+// The samples of a call stand in a local array on their way. Filling one for the longest call would cost a short call more than its
+// own work, so a frame of 20 ms has its own, and a broken record is refused before a long one is filled. Each begins as ones: for
+// zeros the compiler would call C's memset, and then a program that links the archive needs one.
 
 // A coding call on bytes: 4n bytes to n octets, n at most 8000.
 pub fn encode_chunk(c: Coder, bytes: &[u8], octets: &mut [u8]) -> Coded
@@ -19,12 +25,19 @@ pub fn encode_chunk(c: Coder, bytes: &[u8], octets: &mut [u8]) -> Coded
 {
     let n = octets.len();
     if 8000 < n {
-        return not_coded(c);
+        return not_coded(3, c);
     }
     if bytes.len() != 4 * n {
-        return not_coded(c);
+        return not_coded(3, c);
     }
-    let mut samples = [0i16; 16000];
+    if n <= 160 {
+        let mut frame = [1i16; 320];
+        return load_and_code(c, bytes, &mut frame[..2 * n], octets);
+    }
+    if !good_coder(c) {
+        return not_coded(2, c);
+    }
+    let mut samples = [1i16; 16000];
     load_and_code(c, bytes, &mut samples[..2 * n], octets)
 }
 
@@ -42,7 +55,14 @@ pub fn decode_chunk(d: Decoder, told: u8, octets: &[u8], bytes: &mut [u8]) -> De
     if bytes.len() != 4 * n {
         return not_decoded(3, d);
     }
-    let mut samples = [0i16; 16000];
+    if n <= 160 {
+        let mut frame = [1i16; 320];
+        return decode_and_store(d, told, octets, &mut frame[..2 * n], bytes);
+    }
+    if !good_decoder(d) {
+        return not_decoded(2, d);
+    }
+    let mut samples = [1i16; 16000];
     decode_and_store(d, told, octets, &mut samples[..2 * n], bytes)
 }
 
@@ -74,12 +94,12 @@ fn decode_and_store(
     r
 }
 
-// The answer of a coding call whose lengths do not fit.
-fn not_coded(c: Coder) -> Coded
-    ensures { λ r. ⌜ r ≡ record { number = 3; index = 0; next = c } ⌝ }
+// The answer of a refused coding call.
+fn not_coded(refusal: u8, c: Coder) -> Coded
+    ensures { λ r. ⌜ r ≡ record { number = refusal; index = 0; next = c } ⌝ }
 {
     Coded {
-        number: 3,
+        number: refusal,
         index: 0,
         next: c,
     }

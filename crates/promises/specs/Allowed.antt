@@ -38,7 +38,7 @@ atoms =
     }
 
 -- a contract of one plain claim allows what meets the claim, over the heap alone
-allowed : {T : Ended} {φ : Claims T} {κs : Lifetimes T} {a : Input T κs} {r : Answer T κs} {l : Lasts T κs a}
+pub allowed : {T : Ended} {φ : Claims T} {κs : Lifetimes T} {a : Input T κs} {r : Answer T κs} {l : Lasts T κs a}
     → φ κs a r (atExit T κs a l) → Allows T (Claim T φ) κs a r l
 allowed h =
     record {
@@ -57,7 +57,7 @@ allowed h =
 module _ {C : Calls} (M : Made C) (make : C .State → C .Input → M .Call)
     (asked : (s : C .State) (k : C .Input) → M .input (make s k) ≡ k)
     (may : (s : C .State) (k : C .Input) → M .Allowed s (make s k)) where
-  all-made : (s : C .State) (ks : List (C .Input)) → (ms : List (M .Call)) × MadeFrom M s ms × (map (M .input) ms ≡ ks)
+  pub all-made : (s : C .State) (ks : List (C .Input)) → (ms : List (M .Call)) × MadeFrom M s ms × (map (M .input) ms ≡ ks)
   unfolding MadeFrom
   all-made s [] = ([], tt, refl)
   all-made s (k ∷ ks) =
@@ -65,7 +65,7 @@ module _ {C : Calls} (M : Made C) (make : C .State → C .Input → M .Call)
       (make s k ∷ rest .0, (may s k, rest .1), λ i. asked s k i ∷ rest .2 i)
 
 -- a value lent anywhere, under any name
-lent : {X : Type 0} → X → RefT X
+unfoldable pub lent : {X : Type 0} → X → RefT X
 lent x = record { ptr = (0, 0); name = 0; now = x }
 
 code : Coder → CodeInput → Coding

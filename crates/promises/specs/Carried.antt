@@ -50,7 +50,7 @@ six-kept (p ∷ ps) =
     ∙ sym (map-append upperSix (p .octets) (flatMap (λ (q : Parcel). q .octets) ps))
 
 -- and what is heard stays: modes 2 and 3 hear what putting in keeps, and the others put nothing in
-heard-kept : (mode : ℕ) (octets bytes : List ℕ) → Alike (inForce mode) (putCall mode octets bytes .left) octets
+pub heard-kept : (mode : ℕ) (octets bytes : List ℕ) → Alike (inForce mode) (putCall mode octets bytes .left) octets
 unfolding inForce heardBits putCall dataCall dataNumber
 heard-kept zero octets bytes = refl
 heard-kept (suc zero) octets bytes = refl

@@ -7,13 +7,27 @@ pub mod Through
 pub mod Sequences
 pub mod Streams
 pub mod Good
+pub mod Fitting
 -- the two ends
 pub mod Ends
 pub mod Unheard
 pub mod Carried
 pub mod Witness
+-- a host that keeps the record as bytes
+pub mod Kept
+pub mod Packed
+pub mod HostRefused
+pub mod HostCalls
+pub mod HostEnds
+pub mod Alike
+pub mod HostUnheard
+pub mod HostCarried
+pub mod HostWitness
 -- the running code
 pub mod Made
 pub mod Running
+pub mod RunningHost
+pub mod RunningHostData
 pub mod RunningData
 pub mod Allowed
+pub mod AllowedHost

@@ -5,8 +5,13 @@ use mathlib.Core.Path.{_≡_, refl, sym, ap, _∙_}
 use mathlib.Core.Bool.{cond}
 use mathlib.Core.List.{List, [], _∷_, _++_, map}
 use lib.Dec.{eqb}
-use Rattle.laws.specs.Outcome.{Does}
+use Rattle.laws.specs.Outcome.{Outcome, Does}
 use Rattle.promises.specs.Through.{Calls, Runs, through, answers, ofAccepted, taken, lefts, as-one-run, left-as-one-run}
+
+-- that something did what an outcome says is a mere fact, so it can be read off a contract
+pub does-prop : {A B : Type 0} {x : Outcome A B} {r : A} {l : B} → IsSet A → IsSet B → IsProp (Does x r l)
+does-prop {x} {r} {l} f g p q =
+    λ i. record { answer = f r (x .answer) (p .answer) (q .answer) i; left = g l (x .left) (p .left) (q .left) i }
 
 -- a call that was made at an end: what it was handed, what it answered and left, and that its contract allows it from a record,
 -- which is to say that it did what the definition gives
@@ -69,14 +74,14 @@ module _ {C : Calls} (M : Made C) where
   pub made-left : (s : State) (ks : List Call) → MadeFrom s ks → leftsOf ks ≡ lefts C s (map input ks)
   made-left = made-of left (λ t k. C .call t k .left) (λ s k m. did s k m .left)
 
+  pub made-taken : (s : State) (ks : List Call) → MadeFrom s ks → takenOf ks ≡ taken C s (map input ks)
+  made-taken = made-of (λ k. given (input k)) (λ t k. given k) (λ t k a. refl)
+
   -- ---- so the calls that were made are one run too
 
   module _ (R : Runs C) (s : State) (ks : List Call) (m : MadeFrom s ks) where
-    taken-same : takenOf ks ≡ taken C s (map input ks)
-    taken-same = made-of (λ k. given (input k)) (λ t k. given k) (λ t k a. refl) s ks m
-
     pub made-as-one-run : lastOf s ks ≡ after s (takenOf ks)
-    made-as-one-run = made-record s ks m ∙ as-one-run C R s (map input ks) ∙ ap (after s) (sym taken-same)
+    made-as-one-run = made-record s ks m ∙ as-one-run C R s (map input ks) ∙ ap (after s) (sym (made-taken s ks m))
 
     pub made-left-as-one-run : leftsOf ks ≡ out s (takenOf ks)
-    made-left-as-one-run = made-left s ks m ∙ left-as-one-run C R s (map input ks) ∙ ap (out s) (sym taken-same)
+    made-left-as-one-run = made-left s ks m ∙ left-as-one-run C R s (map input ks) ∙ ap (out s) (sym (made-taken s ks m))

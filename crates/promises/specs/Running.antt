@@ -11,7 +11,7 @@ use base.Stored.{coded-set, codedℕ, codedℤ, codedList}
 use denote.Ref.{RefT}
 use denote.Signature.{typeAt}
 use Rattle.laws.specs.One.{Allows, Lifetimes, claims}
-use Rattle.laws.specs.Outcome.{Outcome, Does}
+use Rattle.laws.specs.Outcome.{Does}
 use Rattle.coder.proofs as coder
 use Rattle.decoder.proofs as decoder
 use Rattle.g722.specs.Records.{resetCoder, resetDecoder}
@@ -26,7 +26,7 @@ use Rattle.facts.specs.Told.{Told, decoderRun, samplesRun}
 use Rattle.promises.specs.Sequences.{coding, coding-runs, decoding, decoding-runs}
 use Rattle.promises.specs.Ends.{received, SameBands, AsSent, same-after, same-behind, same-at-end, reset-same}
 use Rattle.promises.specs.Unheard.{AlikeCalls, answers-unheard, samples-unheard, record-unheard}
-use Rattle.promises.specs.Made.{Made, MadeFrom, lastOf, takenOf, leftsOf, made-record, made-answers, made-left}
+use Rattle.promises.specs.Made.{does-prop, Made, MadeFrom, lastOf, takenOf, leftsOf, made-record, made-answers, made-left}
 use Rattle.promises.specs.Made.{made-as-one-run, made-left-as-one-run}
 
 -- ---- what the contracts allow
@@ -70,10 +70,6 @@ did-reset-coder c p = claims (coded-set (typeAt (coder.reset.ended .signature .r
 
 did-reset-decoder : (d : Decoder) → Reset-decoder d → d ≡ resetDecoder
 did-reset-decoder d p = claims (coded-set (typeAt (decoder.reset.ended .signature .result) tt .coded) d resetDecoder) p (λ e. e)
-
-does-prop : {A B : Type 0} {x : Outcome A B} {r : A} {l : B} → IsSet A → IsSet B → IsProp (Does x r l)
-does-prop {x} {r} {l} f g p q =
-    λ i. record { answer = f r (x .answer) (p .answer) (q .answer) i; left = g l (x .left) (p .left) (q .left) i }
 
 pub did-code : (c : Coder) (k : Coding) → Codes c k → Does (codeCall c (k .samples .now) (k .octets .now)) (k .answer) (k .left)
 did-code c k p =

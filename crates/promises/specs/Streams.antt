@@ -2,7 +2,7 @@
 -- Assumes nothing.
 use mathlib.Core.Path.{_≡_, refl, sym, ap, _∙_}
 use mathlib.Core.Bool.{true, _||_, not}
-use mathlib.Core.List.{List, [], _∷_, _++_}
+use mathlib.Core.List.{List, _++_}
 use Prim.Native.Nat.{ℕ, _*_}
 use borrow.Author.Tests.{eqb-false}
 use lib.Dec.{ltb, eqb}
@@ -13,7 +13,7 @@ use Rattle.g722.specs.Quantise.{inForce}
 use Rattle.g722.specs.Records.{goodDecoder}
 use Rattle.g722.specs.Coding.{octetsOf, coderAfter, notCoded, codeCall}
 use Rattle.g722.specs.Decoding.{decoded}
-use Rattle.pcm.specs.Bytes.{pcmSamples, highOf, lowOf, pcmBytes}
+use Rattle.pcm.specs.Bytes.{pcmSamples, pcmBytes, bytes-join}
 use Rattle.pcm.specs.Chunks.{encodeChunk, notStored, asBytes, decodeChunk}
 use Rattle.g722.specs.declared.Coder.{Coder}
 use Rattle.g722.specs.declared.Coded.{Coded}
@@ -107,11 +107,6 @@ storing =
       after = decoderRun;
       out = λ d ts. pcmBytes (samplesRun d ts);
     }
-
-bytes-join : (s t : List ℤ) → pcmBytes (s ++ t) ≡ pcmBytes s ++ pcmBytes t
-unfolding pcmBytes
-bytes-join [] t = refl
-bytes-join (z ∷ s) t = ap (λ (l : List ℕ). highOf z ∷ lowOf z ∷ l) (bytes-join s t)
 
 run-bytes-join : (d : Decoder) (ts rest : List Told)
     → pcmBytes (samplesRun d (ts ++ rest)) ≡ pcmBytes (samplesRun d ts) ++ pcmBytes (samplesRun (decoderRun d ts) rest)

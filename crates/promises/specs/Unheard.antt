@@ -90,7 +90,7 @@ module _ (mode : ℕ) (d : Decoder) (o r : ℕ) (e : heardBits mode o ≡ heardB
 
 -- ---- a run, a call, and calls
 
-run-same : (mode : ℕ) (d : Decoder) (os rs : List ℕ) → Alike mode os rs
+pub run-same : (mode : ℕ) (d : Decoder) (os rs : List ℕ) → Alike mode os rs
     → (decoderAfter mode d os ≡ decoderAfter mode d rs) × (samplesOf mode d os ≡ samplesOf mode d rs)
 unfolding decoderAfter samplesOf
 run-same mode d [] [] e = (refl, refl)

@@ -6,7 +6,7 @@ use lib.ListN.{length, take, drop, length-set}
 use lib.Seq.{take-at}
 use borrow.Author.Needs.{needs}
 use Rattle.block.specs.Layout.{body, blockOf}
-use Rattle.block.proofs.Parts.{last-two}
+use Rattle.laws.specs.Parts.{last-two}
 use Rattle.block.proofs.put.Statement.{statement}
 use Rattle.block.proofs.put.Tie as tie
 

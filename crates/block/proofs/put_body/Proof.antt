@@ -8,7 +8,7 @@ use lib.Seq.{take-at, take-all}
 use borrow.Author.Needs.{needs}
 use borrow.Rule.Slice.PartMut.{putMid, mid-len}
 use Rattle.block.specs.Layout.{head, body}
-use Rattle.block.proofs.Parts.{behind}
+use Rattle.laws.specs.Parts.{behind}
 use Rattle.block.proofs.put_body.Statement.{statement}
 use Rattle.block.proofs.put_body.Tie as tie
 

@@ -2,9 +2,9 @@
 use mathlib.Core.Path.{refl, ap, _∙_}
 use native.Mathlib.Omega.{arith}
 use Rattle.laws.specs.Outcome.{does}
-use Rattle.pcm.specs.Bytes.{pcmBytes}
+use Rattle.pcm.specs.Bytes.{pcmBytes, store-all}
 use Rattle.pcm.specs.Chunks.{asBytes}
-use Rattle.pcm.proofs.Calls.{store-all, decode-done, decode-refused}
+use Rattle.pcm.proofs.Calls.{decode-done, decode-refused}
 use borrow.Author.Needs.{needs}
 use Rattle.pcm.proofs.chunk.decode_and_store.Statement.{statement}
 use Rattle.pcm.proofs.chunk.decode_and_store.Tie as tie

@@ -8,8 +8,8 @@ use lib.ListN.{length, take, set, length-append, drop-of-length-le}
 use lib.Seq.{take-at, length-take-le, sets-eq}
 use borrow.Rule.Slice.PartMut.{putMid}
 
--- bytes a to e, written behind what stands before them
-pub behind : (a e : ℕ) (xs ys p : List ℕ) → a ≤ e → e ≤ length xs → length ys ≡ e - a → take a xs ≡ p
+-- places a to e, written behind what stands before them
+pub behind : {A : Type 0} (a e : ℕ) (xs ys p : List A) → a ≤ e → e ≤ length xs → length ys ≡ e - a → take a xs ≡ p
     → take e (putMid a (e - a) xs ys) ≡ p ++ ys
 behind a e xs ys p h k l f =
     let lp : length p ≡ a = ap length (sym f) ∙ length-take-le a xs (omega arith) in
@@ -17,7 +17,8 @@ behind a e xs ys p h k l f =
     rw (f, ← append-assoc) (take-at (p ++ ys) _ e len)
 
 -- the last two
-pub last-two : (n : ℕ) (xs p : List ℕ) (x y : ℕ) → length xs ≡ n + 2 → take n xs ≡ p → set (set xs n x) (suc n) y ≡ p ++ (x ∷ y ∷ [])
+pub last-two : {A : Type 0} (n : ℕ) (xs p : List A) (x y : A) → length xs ≡ n + 2 → take n xs ≡ p
+    → set (set xs n x) (suc n) y ≡ p ++ (x ∷ y ∷ [])
 last-two n xs p x y l f =
     let h : length xs ≤ n + 2 = omega arith in
     sets-eq (x ∷ y ∷ []) xs n (omega arith) ∙ rw (f, drop-of-length-le xs h, append-nil)

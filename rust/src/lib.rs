@@ -1,0 +1,85 @@
+//! The four calls of `zelcandry.h` for Rust. What the header asks of memory, that the runs of a call
+//! are there and do not overlap, is what slices are, so these functions are safe.
+
+include!(concat!(env!("OUT_DIR"), "/reset.rs"));
+
+/// The calls as C has them.
+pub mod c {
+    extern "C" {
+        pub fn zelcandry_code(
+            state: *mut u8,
+            state_len: usize,
+            samples: *const u8,
+            samples_len: usize,
+            octets: *mut u8,
+            octets_len: usize,
+        ) -> u64;
+        pub fn zelcandry_decode(
+            state: *mut u8,
+            state_len: usize,
+            mode: u8,
+            octets: *const u8,
+            octets_len: usize,
+            samples: *mut u8,
+            samples_len: usize,
+        ) -> u64;
+        pub fn zelcandry_put(
+            mode: u8,
+            octets: *mut u8,
+            octets_len: usize,
+            data: *const u8,
+            data_len: usize,
+        ) -> u64;
+        pub fn zelcandry_take(
+            mode: u8,
+            octets: *const u8,
+            octets_len: usize,
+            data: *mut u8,
+            data_len: usize,
+        ) -> u64;
+    }
+}
+
+/// The number of a refused call, and the index beside it.
+#[derive(Clone, Copy, Debug, PartialEq, Eq)]
+pub struct Refusal {
+    pub number: u8,
+    pub index: usize,
+}
+
+/// The parts of an answer: the number in bits 0 to 7, the index in bits 8 to 31.
+fn told(answer: u64) -> Result<(), Refusal> {
+    match answer as u8 {
+        0 => Ok(()),
+        number => Err(Refusal { number, index: (answer >> 8 & 0xFF_FFFF) as usize }),
+    }
+}
+
+/// Codes `samples`, four bytes for each of the `octets`.
+pub fn code(state: &mut [u8], samples: &[u8], octets: &mut [u8]) -> Result<(), Refusal> {
+    let (s, x, o) = (state.as_mut_ptr(), samples.as_ptr(), octets.as_mut_ptr());
+    told(unsafe { c::zelcandry_code(s, state.len(), x, samples.len(), o, octets.len()) })
+}
+
+/// Decodes `octets` in a mode to `samples`, four bytes for each.
+pub fn decode(
+    state: &mut [u8],
+    mode: u8,
+    octets: &[u8],
+    samples: &mut [u8],
+) -> Result<(), Refusal> {
+    let (s, o, x) = (state.as_mut_ptr(), octets.as_ptr(), samples.as_mut_ptr());
+    told(unsafe { c::zelcandry_decode(s, state.len(), mode, o, octets.len(), x, samples.len()) })
+}
+
+/// Puts `data` into the last bits of `octets`.
+pub fn put(mode: u8, octets: &mut [u8], data: &[u8]) -> Result<(), Refusal> {
+    let (o, d) = (octets.as_mut_ptr(), data.as_ptr());
+    told(unsafe { c::zelcandry_put(mode, o, octets.len(), d, data.len()) })
+}
+
+/// Takes `data` out of the last bits of `octets`.
+pub fn take(mode: u8, octets: &[u8], data: &mut [u8]) -> Result<(), Refusal> {
+    let (o, d) = (octets.as_ptr(), data.as_mut_ptr());
+    told(unsafe { c::zelcandry_take(mode, o, octets.len(), d, data.len()) })
+}
