@@ -25,6 +25,16 @@ impl Decoder {
         Decoder { wrong, receive, low, high, last_mode: 1 }
     }
 
+    /// The decoder of the next take: one at reset (only a wrong one keeps its
+    /// past pairs).
+    pub fn for_next_take(self) -> Decoder {
+        let next = Decoder::new(self.wrong);
+        if self.wrong == Wrong::PairsKept {
+            return Decoder { receive: self.receive, ..next };
+        }
+        next
+    }
+
     /// The low and the high band.
     pub fn bands(&self) -> [&Band; 2] {
         [&self.low, &self.high]

@@ -1,6 +1,6 @@
 //! Errors that sound right for a while, each one switch.
 
-/// Which error the codec makes on purpose.
+/// Which error the codec or the listing makes on purpose.
 #[derive(Clone, Copy, Debug, PartialEq, Eq, Default)]
 pub enum Wrong {
     /// The right codec.
@@ -40,10 +40,22 @@ pub enum Wrong {
     PoleLimitLate,
     /// The loop's difference for the upper bits 0000 is that of 0001.
     NeverSentLoop,
+    /// The listing decodes all blocks as one run.
+    OneRun,
+    /// A take begins in the listing only at a block numbered 0.
+    OnlyBlockZero,
+    /// A take begins in the listing only at another take number.
+    OnlyOtherTake,
+    /// A take begins in the listing also where block numbers do not follow.
+    JumpBegins,
+    /// The listing resets the decoder after the first block of a take.
+    ResetLate,
+    /// The listing resets the two bands and keeps the past pairs.
+    PairsKept,
 }
 
-/// Every error, without `None`.
-pub const ALL: [Wrong; 17] = [
+/// The errors of the codec.
+pub const CODEC: [Wrong; 17] = [
     Wrong::FilterStopsOnce,
     Wrong::FilterOtherOrder,
     Wrong::TransmitUnlimited,
@@ -63,7 +75,18 @@ pub const ALL: [Wrong; 17] = [
     Wrong::NeverSentLoop,
 ];
 
+/// The errors of the listing, over the right codec.
+pub const LISTING: [Wrong; 6] = [
+    Wrong::OneRun,
+    Wrong::OnlyBlockZero,
+    Wrong::OnlyOtherTake,
+    Wrong::JumpBegins,
+    Wrong::ResetLate,
+    Wrong::PairsKept,
+];
+
 /// The error of that name, as it is spelt above.
 pub fn by_name(name: &str) -> Option<Wrong> {
-    ALL.into_iter().chain([Wrong::None]).find(|wrong| format!("{wrong:?}") == name)
+    let errors = CODEC.into_iter().chain(LISTING);
+    errors.chain([Wrong::None]).find(|wrong| format!("{wrong:?}") == name)
 }

@@ -3,7 +3,6 @@
 use second::blocks::{self, check, Reader};
 use second::compare::{decode_all, encode_all};
 use second::history::History;
-use second::listing::listing;
 use second::material::{self, Kind, Stream};
 use second::{cue, Coder, Decoder, Refusal, Wrong};
 
@@ -154,23 +153,6 @@ fn a_reader_stays_at_a_refusal_and_at_the_end() {
     for _ in 0..2 {
         assert_eq!(reader.next_block().unwrap_err().number, 6);
     }
-}
-
-#[test]
-fn the_listing_is_one_run_over_all_blocks() {
-    let octets = encode_all(&samples(Kind::Tones, 9, 1920), Wrong::None);
-    let mut recording = vec![0; 1024];
-    blocks::write(&mut recording[..512], 4000000000, 0, 1, &octets[..480]).unwrap();
-    blocks::write(&mut recording[512..], 5, 9, 2, &octets[480..]).unwrap();
-    let heard = decode_all(&octets, &[1, 2], 480, Wrong::None);
-    let lines = format!(
-        "4000000000 0 1 480 {} {}\n5 9 2 480 {} {}\n",
-        heard[0], heard[959], heard[960], heard[1919]
-    );
-    assert_eq!(listing(&recording, Wrong::None), lines);
-    recording.push(0);
-    assert_eq!(listing(&recording, Wrong::None), lines + "refused 6 2\n");
-    assert_eq!(listing(&[], Wrong::None), "");
 }
 
 #[test]

@@ -96,6 +96,9 @@ fn what_is_logged_is_listed() {
     let lines = String::from_utf8(run(&["listing"], &recording).0).unwrap();
     assert!(lines.starts_with("7 0 1 480 ") && lines.contains("\n7 1 1 1 "), "{lines}");
     assert_eq!(run(&["log", "7", "4"], &[0xfa]), (vec![], "refused 8 0\n".to_string()));
+    let twice = [&recording[..512], &recording[..512]].concat();
+    assert_ne!(run(&["listing", "OneRun"], &twice), run(&["listing"], &twice));
+    assert!(run(&["listing", "NoSuchError"], &twice).1.starts_with("second encode"));
 }
 
 #[test]

@@ -81,7 +81,7 @@ fn the_artificial_sequence_begins_as_printed() {
 fn wrong_variants_are_told() {
     let right = files(Wrong::None);
     let apart = |wrong: &Wrong| files(*wrong).iter().zip(&right).any(|(a, b)| a.words != b.words);
-    let untold: Vec<Wrong> = wrong::ALL.into_iter().filter(|wrong| !apart(wrong)).collect();
+    let untold: Vec<Wrong> = wrong::CODEC.into_iter().filter(|wrong| !apart(wrong)).collect();
     // Four lie in the mirror filters. The order and the stops of FILTEZ do not show in these sequences.
     let filters =
         [Wrong::TransmitUnlimited, Wrong::PhasesExchanged, Wrong::ForgetPairs, Wrong::ReceiveWraps];

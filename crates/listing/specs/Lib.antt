@@ -2,4 +2,5 @@
 pub mod Listed
 pub mod Listing
 pub mod Turns
+pub mod Joined
 pub mod Sums

@@ -1,16 +1,12 @@
 -- The listing of a recording: from its bytes to its lines (SCOPE, the listing).
 -- Assumes nothing.
-use mathlib.Core.Path.{_≡_}
 use mathlib.Core.Bool.{cond}
 use mathlib.Core.List.{List, [], _∷_}
 use Prim.Native.Nat.{ℕ, zero, suc, _+_}
 use lib.Dec.{eqb}
 use lib.IntN.{pos}
 use lib.ListN.{length, take, drop, replicate}
-use Rattle.g722.specs.Records.{resetDecoder}
-use Rattle.facts.specs.Told.{samplesRun, decoderRun}
-use Rattle.recording.specs.Run.{Player, played, onward, AllPlayed, heard, after, allTold, samples-one-run}
-use Rattle.recording.specs.Run.{decoder-one-run}
+use Rattle.recording.specs.Run.{Playing, fresh, played, onward}
 use Rattle.listing.specs.Listed.{listed}
 
 -- a recording in pieces of 512 bytes, of which the last may be shorter. So many turns are enough as there are bytes
@@ -21,12 +17,12 @@ cut (suc turns) bytes = cond (eqb (length bytes) 0) [] (take 512 bytes ∷ cut t
 unfoldable pub pieces : List ℕ → List (List ℕ)
 pieces bytes = cut (length bytes) bytes
 
--- the run begins at reset, with a buffer of 960 samples, cleared
-unfoldable pub start : Player
-start = record { decoder = resetDecoder; samples = replicate 960 (pos 0) }
+-- it begins with a player before its first block, and a buffer of 960 samples, cleared
+unfoldable pub start : Playing
+start = fresh (replicate 960 (pos 0))
 
 -- a line for each block, after so many others; the first that is refused has its line too, and nothing comes after it
-unfoldable pub linesFrom : Player → ℕ → List (List ℕ) → List (List ℕ)
+unfoldable pub linesFrom : Playing → ℕ → List (List ℕ) → List (List ℕ)
 linesFrom p before [] = []
 linesFrom p before (piece ∷ rest) =
     listed (played p piece .answer) before
@@ -34,10 +30,3 @@ linesFrom p before (piece ∷ rest) =
 
 unfoldable pub listing : List ℕ → List (List ℕ)
 listing bytes = linesFrom start 0 (pieces bytes)
-
--- the samples of the whole listing are those of one run from reset, and so is the last record
-pub one-run : (blocks : List (List ℕ)) → AllPlayed start blocks
-    → (heard start blocks ≡ samplesRun resetDecoder (allTold blocks)) ×
-    (after start blocks .decoder ≡ decoderRun resetDecoder (allTold blocks))
-unfolding start
-one-run blocks a = (samples-one-run start blocks a, decoder-one-run start blocks a)

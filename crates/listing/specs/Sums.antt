@@ -1,4 +1,4 @@
--- Sums 14 and 15, and no input: of the whole listing.
+-- Sums 14 and 15, no input, and where a take begins: of the whole listing.
 -- Assumes nothing.
 use mathlib.Core.Path.{_≡_, refl}
 use mathlib.Core.List.{List, [], _∷_, _++_, zipWith}
@@ -6,20 +6,20 @@ use Prim.Native.Nat.{ℕ}
 use lib.ListN.{replicate}
 use Rattle.laws.specs.Clamp.{clamp}
 use Rattle.g722.specs.Arithmetic.{add, sub, mul, limit, sameSign, within, equal}
-use Rattle.g722.specs.Tables.{h, qq6, qq5, qq4, qq2, ila}
+use Rattle.g722.specs.Tables.{h, qq6, qq5, qq4, wl, qq2, wh, ila}
 use Rattle.g722.specs.Words.{fromFour, fromSix, fromFive, fromTwo}
-use Rattle.g722.specs.Quantise.{inverse, invqal, invqah, inForce, invqbl, scaleAt, scalel, scaleh}
-use Rattle.g722.specs.Band.{term, sums, filtez, filtep, predic, recons}
+use Rattle.g722.specs.Quantise.{inverse, invqal, invqah, invqbl}
+use Rattle.g722.specs.Quantise.{logsc, logscl, logsch, scaleAt, scalel, scaleh, lowFactors, highFactors}
+use Rattle.g722.specs.Band.{slide, term, sums, filtez, filtep, predic, parrec, recons, gain, upzero, four, turned, uppol2, reach, uppol1}
+use Rattle.g722.specs.Band.{nextZeros, nextPoles, nextBand, lowAfter, highAfter}
 use Rattle.g722.specs.Mirror.{sum, coefficient, xd, xs, accumc, accumd}
 use Rattle.g722.specs.Records.{inRange, allInRange, goodPoles, goodFactors, goodLow, goodHigh, goodDecoder, resetBand, resetDecoder}
-use Rattle.g722.specs.Coding.{misfit}
-use Rattle.g722.specs.Decoding.{rlOf, rhOf, rlRow, rhRow, firstOf, secondOf, decoderStep, samplesOf, decoderAfter, notDecoded, decoded}
-use Rattle.g722.specs.Decoding.{decodeCall}
+use Rattle.g722.specs.Decoding.{rlOf, rhOf, rlRow, rhRow, firstOf, secondOf, decoderStep, samplesOf, decoderAfter}
 use Rattle.block.specs.Check.{bitStep, bitSteps, byteStep, checkFrom, check}
 use Rattle.block.specs.Layout.{body, blockOf}
 use Rattle.block.specs.Calls.{between, allowed, allZero, wellFormed, readCall}
 use Rattle.recording.specs.Run.{onward}
-use Rattle.recording.specs.Play.{reported, playedFrom, playCall}
+use Rattle.recording.specs.Play.{startPlayer, begins, afresh, decoderFor, reported, playedFrom, playCall}
 use Rattle.lines.specs.Decimal.{spelled, decimal, signed}
 use Rattle.lines.specs.Lines.{blockLine, refusedLine}
 use Rattle.lines.specs.Text.{ascii}
@@ -41,17 +41,31 @@ pub short : listing (replicate 511 0) ≡ ascii "refused 6 0\n" ∷ []
 unfolding listing pieces cut linesFrom start listed playCall readCall refusedLine decimal spelled ascii
 short = refl
 
--- 15. take 7, block 0, mode 1, the octet FA
-abbrev one : List ℕ
-one = blockOf 7 0 1 (0xFA ∷ [])
+-- a block of one octet FA, in mode 1
+abbrev block : ℕ → ℕ → List ℕ
+block number place = blockOf number place 1 (0xFA ∷ [])
 
--- by itself; and before a block that is refused, after which nothing is listed
+-- 15. take 7, block 0
+abbrev one : List ℕ
+one = block 7 0
+
+-- by itself; before a block that is refused, after which nothing is listed; and six times, where each goes on from the one before, but
+-- for block 0 in mid-take and for another take
 pub one-octet : (listing one ≡ ascii "7 0 1 1 0 -1\n" ∷ [])
     × (listing (one ++ (replicate 512 0 ++ one)) ≡ ascii "7 0 1 1 0 -1\n" ∷ ascii "refused 7 1\n" ∷ [])
+    × (listing (one ++ block 7 1 ++ one ++ block 7 1 ++ block 8 1 ++ block 8 2)
+    ≡ ascii "7 0 1 1 0 -1\n"
+    ∷ ascii "7 1 1 1 -1 0\n"
+    ∷ ascii "7 0 1 1 0 -1\n"
+    ∷ ascii "7 1 1 1 -1 0\n"
+    ∷ ascii "8 1 1 1 0 -1\n"
+    ∷ ascii "8 2 1 1 -1 0\n"
+    ∷ [])
 unfolding listing pieces cut linesFrom start onward listed playCall readCall check checkFrom byteStep bitSteps bitStep blockOf body
-    wellFormed allowed between allZero playedFrom reported blockLine refusedLine decimal spelled signed ascii decodeCall misfit
-    goodDecoder goodLow goodHigh goodPoles goodFactors inRange allInRange resetDecoder resetBand decoded notDecoded samplesOf
-    decoderAfter decoderStep firstOf secondOf rlOf rhOf rlRow rhRow accumc accumd xd xs sum coefficient h limit clamp add sub mul
-    sameSign within equal inForce invqbl invqal invqah inverse fromFour fromFive fromSix fromTwo qq4 qq5 qq6 qq2 recons predic filtez
-    filtep term sums scalel scaleh scaleAt ila zipWith
-one-octet = (refl, refl)
+    wellFormed allowed between allZero startPlayer begins afresh decoderFor playedFrom reported blockLine refusedLine decimal spelled
+    signed ascii goodDecoder goodLow goodHigh goodPoles goodFactors inRange allInRange resetDecoder resetBand samplesOf decoderAfter
+    decoderStep firstOf secondOf rlOf rhOf rlRow rhRow accumc accumd xd xs sum coefficient h limit clamp add sub mul sameSign within equal
+    invqbl invqal invqah inverse fromFour fromFive fromSix fromTwo qq4 qq5 qq6 qq2 recons predic filtez filtep term sums scalel scaleh
+    scaleAt ila zipWith logsc logscl logsch lowFactors highFactors slide parrec gain upzero four turned uppol2 reach uppol1 nextZeros
+    nextPoles nextBand lowAfter highAfter wl wh
+one-octet = (refl, refl, refl)

@@ -12,7 +12,7 @@ use Rattle.laws.specs.Order.{by-test}
 use Rattle.lines.specs.Lines.{blockLine, refusedLine}
 use Rattle.listing.specs.Listed.{listed}
 use Rattle.recording.specs.Stays.{pieceAt}
-use Rattle.recording.specs.Run.{Player, played, onward}
+use Rattle.recording.specs.Run.{Playing, played, onward}
 use Rattle.listing.specs.Listing.{cut, pieces, start, linesFrom, listing}
 
 -- ---- the pieces: none of nothing, else 512 bytes, or as many as there are, and then the pieces of the rest
@@ -72,14 +72,14 @@ pieces-walked (suc k) bytes =
 
 -- ---- the lines of what is left of a recording
 
-abbrev pub listingFrom : Player → ℕ → List ℕ → List (List ℕ)
+abbrev pub listingFrom : Playing → ℕ → List ℕ → List (List ℕ)
 listingFrom p before bytes = linesFrom p before (pieces bytes)
 
 pub whole-listing : (bytes : List ℕ) → listing bytes ≡ listingFrom start 0 bytes
 unfolding listing
 whole-listing bytes = refl
 
-module _ (p : Player) (before : ℕ) where
+module _ (p : Playing) (before : ℕ) where
   -- no input, no lines
   pub no-lines : listingFrom p before [] ≡ []
   unfolding linesFrom

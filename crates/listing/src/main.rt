@@ -1,19 +1,19 @@
-// Lists a recording from standard input: one line per block, decoded as one run from reset, and a last line at the first refusal.
+// Lists a recording from standard input: one line per block, each take decoded from reset, and a last line at the first refusal.
 ghost use mathlib.Core.Path.{_≡_};
 ghost use Prim.Native.Nat.{_≤_};
 ghost use lib.ListN.{length};
 ghost use Rattle.lines.specs.Lines.{lineOf};
 ghost use Rattle.listing.specs.Listed.{listed};
-use g722::Decoder;
 use libc::STDERR_FILENO;
 use libc::STDIN_FILENO;
 use libc::STDOUT_FILENO;
 use lines::Line;
 use recording::Played;
+use recording::Player;
 
-// What a block leaves: the decoder after it, and whether to read on.
+// What a block leaves: the player after it, and whether to read on.
 struct Onward {
-    next: Decoder,
+    next: Player,
     more: bool,
 }
 
@@ -44,22 +44,22 @@ fn print(line: Line) -> bool
 }
 
 // After the last line.
-fn last(d: Decoder) -> Onward {
+fn last(p: Player) -> Onward {
     Onward {
-        next: d,
+        next: p,
         more: false,
     }
 }
 
 // Plays a block, or a shorter last piece, and prints its line.
-fn list(d: Decoder, before: u64, block: &[u8], samples: &mut [i16]) -> Onward {
-    let p = recording::play(d, block, samples);
-    let next = p.next;
-    if !print(listed(p, before)) {
+fn list(p: Player, before: u64, block: &[u8], samples: &mut [i16]) -> Onward {
+    let played = recording::play(p, block, samples);
+    let next = played.next;
+    if !print(listed(played, before)) {
         os::fail(b"write");
         return last(next);
     }
-    if p.number != 0 {
+    if played.number != 0 {
         io::write_all(STDERR_FILENO, b"stopped at a block that is refused\n");
         return last(next);
     }
@@ -70,29 +70,29 @@ fn list(d: Decoder, before: u64, block: &[u8], samples: &mut [i16]) -> Onward {
 }
 
 // Reads a block and lists it. After a short one it asks once more, since a read that fails is not the end.
-fn turn(d: Decoder, before: u64, samples: &mut [i16]) -> Onward {
+fn turn(p: Player, before: u64, samples: &mut [i16]) -> Onward {
     let mut block = [0u8; 512];
     let mut byte = [0u8; 1];
     let got = io::read_full(STDIN_FILENO, &mut block);
     if got < 512 && libc::read(STDIN_FILENO, &mut byte) < 0 {
         os::fail(b"read");
-        return last(d);
+        return last(p);
     }
     if got == 0 {
-        return last(d);
+        return last(p);
     }
-    list(d, before, &block[..got], samples)
+    list(p, before, &block[..got], samples)
 }
 
 // Block after block. A proved loop has to end, and nothing says that the input does: no recording has so many blocks.
 fn run() {
     let mut samples = [0i16; 960];
-    let mut d = decoder::reset();
+    let mut p = recording::start();
     let mut before: u64 = 0;
     let mut more = true;
     while more && before < u64::MAX {
-        let t = turn(d, before, &mut samples);
-        d = t.next;
+        let t = turn(p, before, &mut samples);
+        p = t.next;
         more = t.more;
         before += 1;
     }

@@ -53,10 +53,16 @@ allowed h =
       ensured = ∣ (h, tt) ∣₁;
     }
 
--- calls can be made one after the other where each can
-module _ {C : Calls} (M : Made C) (make : C .State → C .Input → M .Call)
-    (asked : (s : C .State) (k : C .Input) → M .input (make s k) ≡ k)
-    (may : (s : C .State) (k : C .Input) → M .Allowed s (make s k)) where
+-- from any record a call can be made for any input
+pub record Makes {C : Calls} (M : Made C) : Type 2 where
+  pub make : C .State → C .Input → M .Call
+  pub asked : (s : C .State) (k : C .Input) → M .input (make s k) ≡ k
+  pub may : (s : C .State) (k : C .Input) → M .Allowed s (make s k)
+
+-- so calls can be made one after the other
+module _ {C : Calls} (M : Made C) (can : Makes M) where
+  open Makes can using (make, asked, may)
+
   pub all-made : (s : C .State) (ks : List (C .Input)) → (ms : List (M .Call)) × MadeFrom M s ms × (map (M .input) ms ≡ ks)
   unfolding MadeFrom
   all-made s [] = ([], tt, refl)
@@ -98,17 +104,23 @@ put x =
       samples = x .samples;
     }
 
+pub makes-code : Makes codings
+unfolding code lent
+makes-code = record { make = code; asked = λ c k. refl; may = λ c k. allowed (record { answer = refl; left = refl }) }
+
+pub makes-decode : Makes decodings
+unfolding decode lent
+makes-decode = record { make = decode; asked = λ d k. refl; may = λ d k. allowed (record { answer = refl; left = refl }) }
+
 -- THE THEOREMS: both ends can be reset, any calls can be made at each, and any data can be put in
 pub can-reset : Reset-coder resetCoder × Reset-decoder resetDecoder
 can-reset = (allowed refl, allowed refl)
 
 pub can-code : (c : Coder) (ks : List CodeInput) → (ms : List Coding) × MadeFrom codings c ms × (map (codings .input) ms ≡ ks)
-unfolding code lent
-can-code = all-made codings code (λ c k. refl) (λ c k. allowed (record { answer = refl; left = refl }))
+can-code = all-made codings makes-code
 
 pub can-decode : (d : Decoder) (ks : List DecodeInput) → (ms : List Decoding) × MadeFrom decodings d ms × (map (decodings .input) ms ≡ ks)
-unfolding decode lent
-can-decode = all-made decodings decode (λ d k. refl) (λ d k. allowed (record { answer = refl; left = refl }))
+can-decode = all-made decodings makes-decode
 
 pub can-put : (x : Parcel) → (p : Putting) × Puts p × (parcel p ≡ x)
 unfolding put lent

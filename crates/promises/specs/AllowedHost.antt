@@ -8,7 +8,7 @@ use Rattle.promises.specs.Streams.{EncodeInput, StoreInput}
 use Rattle.promises.specs.Made.{MadeFrom}
 use Rattle.promises.specs.HostCalls.{returned}
 use Rattle.promises.specs.HostCarried.{HostParcel}
-use Rattle.promises.specs.Allowed.{allowed, all-made, lent}
+use Rattle.promises.specs.Allowed.{allowed, Makes, all-made, lent}
 use Rattle.promises.specs.RunningHost.{HostCode, HostDecode, hostCodes, hostDecodes}
 use Rattle.promises.specs.RunningHostData.{HostPut, HostPuts, hostParcel}
 
@@ -50,16 +50,22 @@ put x =
       samples = x .samples;
     }
 
+pub makes-host-code : Makes hostCodes
+unfolding code lent
+makes-host-code = record { make = code; asked = λ s k. refl; may = λ s k. (refl, allowed (record { answer = refl; left = refl })) }
+
+pub makes-host-decode : Makes hostDecodes
+unfolding decode lent
+makes-host-decode = record { make = decode; asked = λ s k. refl; may = λ s k. (refl, allowed (record { answer = refl; left = refl })) }
+
 -- THE THEOREMS: any calls can be made at each end, from any state bytes, and any data can be put in
 pub can-host-code : (state : List ℕ) (ks : List EncodeInput)
     → (ms : List HostCode) × MadeFrom hostCodes state ms × (map (hostCodes .input) ms ≡ ks)
-unfolding code lent
-can-host-code = all-made hostCodes code (λ s k. refl) (λ s k. (refl, allowed (record { answer = refl; left = refl })))
+can-host-code = all-made hostCodes makes-host-code
 
 pub can-host-decode : (state : List ℕ) (ks : List StoreInput)
     → (ms : List HostDecode) × MadeFrom hostDecodes state ms × (map (hostDecodes .input) ms ≡ ks)
-unfolding decode lent
-can-host-decode = all-made hostDecodes decode (λ s k. refl) (λ s k. (refl, allowed (record { answer = refl; left = refl })))
+can-host-decode = all-made hostDecodes makes-host-decode
 
 pub can-host-put : (x : HostParcel) → (p : HostPut) × HostPuts p × (hostParcel p ≡ x)
 unfolding put lent

@@ -1,7 +1,8 @@
 -- Demand 3, its first half: the two ends never part.
 -- From reset, with every octet decoded once and in order, its upper six bits (H1 H2 L1..L4) as sent: after each octet both bands
 -- are equal at both ends, whatever stands in the last two bits and whichever modes were told, whatever calls were refused, also
--- inside a call and while the decoder is behind. Nothing is said of lost or repeated octets: after those the ends may part.
+-- inside a call and while the decoder is behind. Nothing is said of lost or repeated octets: after those the ends may part,
+-- until both are reset.
 -- Assumes nothing.
 use mathlib.Core.Path.{_≡_, refl, sym, ap, _∙_}
 use mathlib.Core.List.{List, [], _∷_, map, head-eq-of-cons-eq, tail-eq-of-cons-eq, nil≢cons, cons≢nil}

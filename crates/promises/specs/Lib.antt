@@ -10,6 +10,10 @@ pub mod Good
 pub mod Fitting
 -- the two ends
 pub mod Ends
+pub mod Turns
+pub mod Resets
+pub mod ResetStreams
+pub mod ResetWitness
 pub mod Unheard
 pub mod Carried
 pub mod Witness
@@ -19,6 +23,7 @@ pub mod Packed
 pub mod HostRefused
 pub mod HostCalls
 pub mod HostEnds
+pub mod HostResets
 pub mod Alike
 pub mod HostUnheard
 pub mod HostCarried
@@ -26,8 +31,12 @@ pub mod HostWitness
 -- the running code
 pub mod Made
 pub mod Running
+pub mod MadeTurns
+pub mod RunningResets
 pub mod RunningHost
+pub mod RunningHostResets
 pub mod RunningHostData
 pub mod RunningData
 pub mod Allowed
 pub mod AllowedHost
+pub mod AllowedTurns

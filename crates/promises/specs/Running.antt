@@ -65,10 +65,10 @@ Decodes d k =
 
 -- ---- and that it is what the definitions give
 
-did-reset-coder : (c : Coder) → Reset-coder c → c ≡ resetCoder
+pub did-reset-coder : (c : Coder) → Reset-coder c → c ≡ resetCoder
 did-reset-coder c p = claims (coded-set (typeAt (coder.reset.ended .signature .result) tt .coded) c resetCoder) p (λ e. e)
 
-did-reset-decoder : (d : Decoder) → Reset-decoder d → d ≡ resetDecoder
+pub did-reset-decoder : (d : Decoder) → Reset-decoder d → d ≡ resetDecoder
 did-reset-decoder d p = claims (coded-set (typeAt (decoder.reset.ended .signature .result) tt .coded) d resetDecoder) p (λ e. e)
 
 pub did-code : (c : Coder) (k : Coding) → Codes c k → Does (codeCall c (k .samples .now) (k .octets .now)) (k .answer) (k .left)

@@ -27,5 +27,8 @@ next = equation (λ κs a l m. refl) (λ M. recording.next.Met.met)
 pub moved-on : LeavesOne recording.moved_on.ended (λ M. recording.moved_on.clauses) recording.moved_on.Symbol.routine
 moved-on = claimed (λ κs a l m. refl) (λ κs a r s e f p q. reader p q) (λ M. recording.moved_on.Met.met)
 
+pub start : LeavesOne recording.start.ended (λ M. recording.start.clauses) recording.start.Symbol.routine
+start = equation (λ κs a l m. refl) (λ M. recording.start.Met.met)
+
 pub play : LeavesOne recording.play.ended (λ M. recording.play.clauses) recording.play.Symbol.routine
 play = call (codedList codedℤ) (λ κs a l m e i. (tt, (tt, (e i, tt)))) (λ M. recording.play.Met.met)

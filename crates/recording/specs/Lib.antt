@@ -2,6 +2,9 @@
 pub mod Walk
 pub mod Stays
 pub mod Play
+pub mod Begins
 pub mod Played
 pub mod Run
+pub mod Takes
 pub mod Enough
+pub mod Said

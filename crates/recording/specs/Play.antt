@@ -1,50 +1,77 @@
--- A block played: read, and its octets decoded into the front of lent samples.
+-- A block played: read, and its octets decoded into the front of lent samples, from reset where a take begins.
 -- Assumes nothing.
-use mathlib.Core.Bool.{cond, not}
+use mathlib.Core.Bool.{Bool, true, false, cond, not, _||_}
 use mathlib.Core.List.{List, _++_}
 use Prim.Native.Nat.{ℕ, _-_, _*_}
 use lib.Dec.{eqb, ltb}
 use lib.IntN.{ℤ, pos}
 use lib.ListN.{length, getD, take, drop}
 use Rattle.laws.specs.Outcome.{Outcome}
-use Rattle.g722.specs.Decoding.{decodeCall}
+use Rattle.g722.specs.Records.{goodDecoder, resetDecoder}
+use Rattle.g722.specs.Decoding.{samplesOf, decoderAfter}
 use Rattle.g722.specs.declared.Decoder.{Decoder}
-use Rattle.g722.specs.declared.Decoded.{Decoded}
 use Rattle.block.specs.Calls.{readCall}
 use Rattle.block.specs.declared.BlockRead.{BlockRead}
 use Rattle.recording.specs.declared.Played.{Played}
+use Rattle.recording.specs.declared.Player.{Player}
 
--- a refusal gives the record back as it came, and 0 in every other field
-abbrev pub notPlayed : ℕ → Decoder → Played
-notPlayed number d =
-    record { number = number; index = 0; next = d; take = 0; block = 0; mode = 0; count = 0; first = pos 0; last = pos 0 }
+-- ---- where a take begins
 
--- what is said of a block that read well, from the decoder's answer and the samples after it
-unfoldable pub reported : Decoder → BlockRead → Decoded → List ℤ → Played
-reported d b done samples =
-    cond (not (eqb (done .number) 0)) (notPlayed (done .number) d)
-    (record {
+-- before the first block: the decoder at reset, and no take yet
+unfoldable pub startPlayer : Player
+startPlayer = record { decoder = resetDecoder; begun = false; take = 0 }
+
+-- a block after one of this take begins a take if it is numbered 0, or if it is of another take
+unfoldable pub begins : ℕ → BlockRead → Bool
+begins before b = eqb (b .block) 0 || not (eqb (b .take) before)
+
+-- the first block of all begins one anyway
+unfoldable pub afresh : Player → BlockRead → Bool
+afresh p b = not (p .begun) || begins (p .take) b
+
+-- where a take begins, the decoder is reset before the block's octets; else they are decoded from where the block before left it
+unfoldable pub decoderFor : Player → BlockRead → Decoder
+decoderFor p b = cond (afresh p b) resetDecoder (p .decoder)
+
+-- ---- a block
+
+-- a refusal gives the player's record back as it came, and 0 in every other field
+abbrev pub notPlayed : ℕ → Player → Played
+notPlayed number p =
+    record { number = number; index = 0; next = p; take = 0; block = 0; mode = 0; count = 0; first = pos 0; last = pos 0 }
+
+-- what is said of a block that was played, from the decoder's next record and the samples; the player keeps the block's take
+unfoldable pub reported : BlockRead → Decoder → List ℤ → Played
+reported b next samples =
+    record {
       number = 0;
       index = 0;
-      next = done .next;
+      next = record { decoder = next; begun = true; take = b .take };
       take = b .take;
       block = b .block;
       mode = b .mode;
       count = b .count;
       first = getD samples 0 (pos 0);
       last = getD samples (2 * b .count - 1) (pos 0);
-    })
+    }
 
--- the decoder is lent the octets from byte 12 and as many pairs of samples; the samples behind them stay
-unfoldable pub playedFrom : Decoder → BlockRead → Outcome Decoded (List ℤ) → List ℤ → Outcome Played (List ℤ)
-playedFrom d b x rest = record { answer = reported d b (x .answer) (x .left ++ rest); left = x .left ++ rest }
+-- the octets of a block, from byte 12
+abbrev pub octetsIn : List ℕ → List ℕ
+octetsIn b = take (readCall b .count) (drop 12 b)
 
--- reading's refusals, 6, 7 and 8, then 3 where the samples are too few for the octets, then the decoder's
-unfoldable pub playCall : Decoder → List ℕ → List ℤ → Outcome Played (List ℤ)
-playCall d b samples =
-    cond (not (eqb (readCall b .number) 0))
-    (record { answer = notPlayed (readCall b .number) d; left = samples })
-    (cond (ltb (length samples) (2 * readCall b .count)) (record { answer = notPlayed 3 d; left = samples })
-    (playedFrom d (readCall b)
-    (decodeCall d (readCall b .mode) (take (readCall b .count) (drop 12 b)) (take (2 * readCall b .count) samples))
-    (drop (2 * readCall b .count) samples)))
+-- octets decoded from a record, in the mode of their block, into the front of the samples; those behind stay
+unfoldable pub playedFrom : Decoder → BlockRead → List ℕ → List ℤ → Outcome Played (List ℤ)
+playedFrom d b octets rest =
+    record {
+      answer = reported b (decoderAfter (b .mode) d octets) (samplesOf (b .mode) d octets ++ rest);
+      left = samplesOf (b .mode) d octets ++ rest;
+    }
+
+-- reading's refusals, 6, 7 and 8, then 3 where the samples are too few for the octets, then 2 where the record is broken, even if the
+-- block begins a take and does not go on from it
+unfoldable pub playCall : Player → List ℕ → List ℤ → Outcome Played (List ℤ)
+playCall p b samples =
+    cond (not (eqb (readCall b .number) 0)) (record { answer = notPlayed (readCall b .number) p; left = samples })
+    (cond (ltb (length samples) (2 * readCall b .count)) (record { answer = notPlayed 3 p; left = samples })
+    (cond (not (goodDecoder (p .decoder))) (record { answer = notPlayed 2 p; left = samples })
+    (playedFrom (decoderFor p (readCall b)) (readCall b) (octetsIn b) (drop (2 * readCall b .count) samples))))

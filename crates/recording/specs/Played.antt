@@ -1,26 +1,25 @@
 -- A block played, for every input: which number is given when, that a refusal changes nothing, and what is heard.
 -- Assumes nothing.
-use mathlib.Core.Path.{_≡_, refl, _∙_}
+use mathlib.Core.Path.{_≡_, refl}
 use mathlib.Core.Bool.{true, false}
 use mathlib.Core.List.{List, _++_}
 use Prim.Native.Nat.{ℕ, _-_, _*_, _≤_, _<_}
 use native.Mathlib.Omega.{arith}
 use lib.Dec.{eqb, ltb}
 use lib.IntN.{ℤ, pos}
-use lib.ListN.{length, getD, take, drop, length-drop, take-append-drop}
+use lib.ListN.{length, getD, take, drop, length-drop}
 use lib.Seq.{length-take-le}
 use borrow.Author.Tests.{lt-ltb, le-ltb, ltb-true, ltb-false, eq-eqb, ne-eqb, eqb-true, eqb-false}
 use Rattle.laws.specs.Order.{by-test}
-use Rattle.g722.specs.Quantise.{inForce}
 use Rattle.g722.specs.Records.{goodDecoder}
-use Rattle.g722.specs.Coding.{misfit}
-use Rattle.g722.specs.Decoding.{samplesOf, decoderAfter, notDecoded, decoded, decodeCall}
-use Rattle.g722.specs.declared.Decoder.{Decoder}
+use Rattle.g722.specs.Decoding.{samplesOf, decoderAfter}
+use Rattle.facts.specs.Good.{decoder-reset-good}
 use Rattle.block.specs.Calls.{readCall}
 use Rattle.block.specs.Formed.{Allowed}
 use Rattle.block.specs.Numbers.{read-sound, read-done}
 use Rattle.block.specs.declared.BlockRead.{BlockRead}
-use Rattle.recording.specs.Play.{notPlayed, reported, playedFrom, playCall}
+use Rattle.recording.specs.declared.Player.{Player}
+use Rattle.recording.specs.Play.{afresh, decoderFor, notPlayed, octetsIn, reported, playedFrom, playCall}
 
 -- the bounds of a block that reads well
 pub record Bounds (b : List ℕ) (r : BlockRead) : Type 0 where
@@ -32,10 +31,6 @@ read-bounds b z =
     let s = read-sound b z in
     rw (read-done b (s .size) (s .right) (s .formed)) (record { size = s .size; says = s .formed .says })
 
--- the octets of a block
-abbrev pub octetsIn : List ℕ → List ℕ
-octetsIn b = take (readCall b .count) (drop 12 b)
-
 pub octets-length : (b : List ℕ) → readCall b .number ≡ 0 → length (octetsIn b) ≡ readCall b .count
 octets-length b z =
     let p = read-bounds b z in
@@ -44,59 +39,38 @@ octets-length b z =
 
 -- ---- case by case, from what the block reads as
 
-module _ (d : Decoder) (b : List ℕ) (samples : List ℤ) (r : BlockRead) (e : r ≡ readCall b) where
-  pub play-unread : (r .number ≡ 0 → ⊥) → playCall d b samples ≡ record { answer = notPlayed (r .number) d; left = samples }
+module _ (p : Player) (b : List ℕ) (samples : List ℤ) (r : BlockRead) (e : r ≡ readCall b) where
+  pub play-unread : (r .number ≡ 0 → ⊥) → playCall p b samples ≡ record { answer = notPlayed (r .number) p; left = samples }
   unfolding playCall
   play-unread h = rw (← e, ne-eqb (r .number) 0 h)
 
   module _ (h : r .number ≡ 0) where
-    pub play-narrow : length samples < 2 * r .count → playCall d b samples ≡ record { answer = notPlayed 3 d; left = samples }
+    pub play-narrow : length samples < 2 * r .count → playCall p b samples ≡ record { answer = notPlayed 3 p; left = samples }
     unfolding playCall
     play-narrow k = rw (← e, eq-eqb (r .number) 0 h, lt-ltb (length samples) (2 * r .count) k)
 
-    pub play-called : 2 * r .count ≤ length samples
-        → playCall d b samples
-        ≡ playedFrom d r (decodeCall d (r .mode) (take (r .count) (drop 12 b)) (take (2 * r .count) samples)) (drop (2 * r .count) samples)
-    unfolding playCall
-    play-called k = rw (← e, eq-eqb (r .number) 0 h, le-ltb (length samples) (2 * r .count) k)
+    module _ (k : 2 * r .count ≤ length samples) where
+      pub play-broken : goodDecoder (p .decoder) ≡ false → playCall p b samples ≡ record { answer = notPlayed 2 p; left = samples }
+      unfolding playCall
+      play-broken g = rw (← e, eq-eqb (r .number) 0 h, le-ltb (length samples) (2 * r .count) k, g)
 
--- ---- the decoder never finds the mode or the lengths at fault, so what is left to refuse is its record
+      pub play-called : goodDecoder (p .decoder) ≡ true
+          → playCall p b samples
+          ≡ playedFrom (decoderFor p r) r (take (r .count) (drop 12 b)) (drop (2 * r .count) samples)
+      unfolding playCall
+      play-called g = rw (← e, eq-eqb (r .number) 0 h, le-ltb (length samples) (2 * r .count) k, g)
 
-module _ (d : Decoder) (b : List ℕ) (samples : List ℤ) (h : readCall b .number ≡ 0) (k : 2 * readCall b .count ≤ length samples) where
-  abbrev mode : ℕ
-  mode = readCall b .mode
-
-  abbrev front : List ℤ
-  front = take (2 * readCall b .count) samples
-
-  abbrev rest : List ℤ
-  rest = drop (2 * readCall b .count) samples
-
-  told : ltb 3 mode ≡ false
-  told = le-ltb 3 mode (read-bounds b h .says .mode-most)
-
-  fits : misfit (length front) (length (octetsIn b)) ≡ false
-  unfolding misfit
-  fits =
-      let most = read-bounds b h .says .count-most in
-      let n = octets-length b h in
-      let m : length front ≡ 2 * readCall b .count = length-take-le (2 * readCall b .count) samples k in
-      rw (n, m, le-ltb 8000 (readCall b .count) (omega arith), eq-eqb (2 * readCall b .count) (2 * readCall b .count) refl)
-
-  pub play-broken : goodDecoder d ≡ false → playCall d b samples ≡ record { answer = notPlayed 2 d; left = samples }
-  unfolding playedFrom reported decodeCall notDecoded
-  play-broken g =
-      let same : front ++ rest ≡ samples = take-append-drop (2 * readCall b .count) samples in
-      play-called d b samples (readCall b) refl h k ∙ rw (told, fits, g, same)
-
-  pub play-done : goodDecoder d ≡ true
-      → let left = samplesOf mode d (octetsIn b) ++ rest in
-      playCall d b samples
+-- what was played, then, in full
+module _ (p : Player) (b : List ℕ) (samples : List ℤ) (h : readCall b .number ≡ 0) (k : 2 * readCall b .count ≤ length samples) where
+  pub play-done : goodDecoder (p .decoder) ≡ true
+      → let d = decoderFor p (readCall b) in
+      let left = samplesOf (readCall b .mode) d (octetsIn b) ++ drop (2 * readCall b .count) samples in
+      playCall p b samples
       ≡ record {
         answer = record {
           number = 0;
           index = 0;
-          next = decoderAfter mode d (octetsIn b);
+          next = record { decoder = decoderAfter (readCall b .mode) d (octetsIn b); begun = true; take = readCall b .take };
           take = readCall b .take;
           block = readCall b .block;
           mode = readCall b .mode;
@@ -106,22 +80,25 @@ module _ (d : Decoder) (b : List ℕ) (samples : List ℤ) (h : readCall b .numb
         };
         left = left;
       }
-  unfolding playedFrom reported decodeCall decoded inForce
-  play-done g =
-      let some = read-bounds b h .says .mode-least in
-      let set : eqb mode 0 ≡ false = ne-eqb mode 0 (λ z. omega arith) in
-      play-called d b samples (readCall b) refl h k ∙ rw (told, fits, g, set)
+  unfolding playedFrom reported
+  play-done g = play-called p b samples (readCall b) refl h k g
+
+-- ---- the record that a block starts from is good, if the player's is
+
+pub start-good : (p : Player) (r : BlockRead) → goodDecoder (p .decoder) ≡ true → goodDecoder (decoderFor p r) ≡ true
+unfolding decoderFor
+start-good p r g = by-test (afresh p r) (λ e. rw e decoder-reset-good) (λ e. rw e g)
 
 -- ---- so a refused play changes nothing, and one that is not refused has heard the block
 
-module _ (d : Decoder) (b : List ℕ) (samples : List ℤ) where
-  pub play-refused : (playCall d b samples .answer .number ≡ 0 → ⊥)
-      → playCall d b samples
+module _ (p : Player) (b : List ℕ) (samples : List ℤ) where
+  pub play-refused : (playCall p b samples .answer .number ≡ 0 → ⊥)
+      → playCall p b samples
       ≡ record {
         answer = record {
-          number = playCall d b samples .answer .number;
+          number = playCall p b samples .answer .number;
           index = 0;
-          next = d;
+          next = p;
           take = 0;
           block = 0;
           mode = 0;
@@ -135,23 +112,25 @@ module _ (d : Decoder) (b : List ℕ) (samples : List ℤ) where
       by-test (eqb (readCall b .number) 0)
       (λ e. let z = eqb-true (readCall b .number) 0 e in
       by-test (ltb (length samples) (2 * readCall b .count))
-      (λ f. rw (play-narrow d b samples (readCall b) refl z (ltb-true _ _ f)))
+      (λ f. rw (play-narrow p b samples (readCall b) refl z (ltb-true _ _ f)))
       (λ f. let k = ltb-false (length samples) (2 * readCall b .count) f in
-      by-test (goodDecoder d) (λ g. absurd (h (rw (play-done d b samples z k g)))) (λ g. rw (play-broken d b samples z k g))))
-      (λ e. rw (play-unread d b samples (readCall b) refl (eqb-false (readCall b .number) 0 e)))
+      by-test (goodDecoder (p .decoder))
+      (λ g. absurd (h (rw (play-done p b samples z k g))))
+      (λ g. rw (play-broken p b samples (readCall b) refl z k g))))
+      (λ e. rw (play-unread p b samples (readCall b) refl (eqb-false (readCall b .number) 0 e)))
 
   pub record Heard : Type 0 where
     pub read : readCall b .number ≡ 0
     pub room : 2 * readCall b .count ≤ length samples
-    pub sound : goodDecoder d ≡ true
+    pub sound : goodDecoder (p .decoder) ≡ true
 
-  pub play-heard : playCall d b samples .answer .number ≡ 0 → Heard
+  pub play-heard : playCall p b samples .answer .number ≡ 0 → Heard
   play-heard h =
       by-test (eqb (readCall b .number) 0)
       (λ e. let z = eqb-true (readCall b .number) 0 e in
       by-test (ltb (length samples) (2 * readCall b .count))
-      (λ f. absurd (omega (arith, rw (play-narrow d b samples (readCall b) refl z (ltb-true _ _ f)) at h)))
+      (λ f. absurd (omega (arith, rw (play-narrow p b samples (readCall b) refl z (ltb-true _ _ f)) at h)))
       (λ f. let k = ltb-false (length samples) (2 * readCall b .count) f in
-      by-test (goodDecoder d) (λ g. record { read = z; room = k; sound = g })
-      (λ g. absurd (omega (arith, rw (play-broken d b samples z k g) at h)))))
-      (λ e. absurd (let n = eqb-false (readCall b .number) 0 e in n (rw (play-unread d b samples (readCall b) refl n) at h)))
+      by-test (goodDecoder (p .decoder)) (λ g. record { read = z; room = k; sound = g })
+      (λ g. absurd (omega (arith, rw (play-broken p b samples (readCall b) refl z k g) at h)))))
+      (λ e. absurd (let n = eqb-false (readCall b .number) 0 e in n (rw (play-unread p b samples (readCall b) refl n) at h)))

@@ -3,7 +3,7 @@ ghost use mathlib.Core.Path.{_≡_};
 ghost use Prim.Native.Nat.{_+_, _<_, _^_};
 ghost use Rattle.laws.specs.Outcome.{Does};
 ghost use Rattle.recording.specs.Walk.{ended, stood, stepAt, nextAt};
-ghost use Rattle.recording.specs.Play.{notPlayed, playCall};
+ghost use Rattle.recording.specs.Play.{startPlayer, begins, decoderFor, notPlayed, playCall};
 use block::BlockRead;
 use g722::Decoder;
 
@@ -20,11 +20,18 @@ pub struct Step {
     pub next: usize,
 }
 
-// The answer of playing a block: the number of SCOPE, the decoder's next record, and where the number is 0 what the listing says.
+// What is kept from block to block: the decoder's record, whether a block was played before, and the take of the last that was.
+pub struct Player {
+    pub decoder: Decoder,
+    pub begun: bool,
+    pub take: u32,
+}
+
+// The answer of playing a block: the number of SCOPE, the player's next record, and where the number is 0 what the listing says.
 pub struct Played {
     pub number: u8,
     pub index: usize,
-    pub next: Decoder,
+    pub next: Player,
     pub take: u32,
     pub block: u32,
     pub mode: u8,
@@ -118,14 +125,51 @@ pub fn moved_on<'a>(r: Reader<'a>) -> Reader<'a>
     Reader { src: r.src, at }
 }
 
-// A block that was not played: the number, the record as it came, and 0 in every other field.
-fn not_played(number: u8, d: Decoder) -> Played
-    ensures { λ r. ⌜ r ≡ notPlayed number d ⌝ }
+// The player before the first block.
+pub fn start() -> Player
+    ensures { λ r. ⌜ r ≡ startPlayer ⌝ }
+{
+    let d = decoder::reset();
+    Player {
+        decoder: d,
+        begun: false,
+        take: 0,
+    }
+}
+
+// Whether a block after one of this take begins a take: it is numbered 0, or it is of another take.
+fn begins(before: u32, read: BlockRead) -> bool
+    ensures { λ r. ⌜ r ≡ begins before read ⌝ }
+{
+    let block = read.block;
+    let take = read.take;
+    if block == 0 {
+        return true;
+    }
+    take != before
+}
+
+// The decoder's record for a block: that of a reset where a take begins, else the player's. The first block begins one anyway.
+fn decoder_for(p: Player, read: BlockRead) -> Decoder
+    ensures { λ r. ⌜ r ≡ decoderFor p read ⌝ }
+{
+    if !p.begun {
+        return decoder::reset();
+    }
+    if begins(p.take, read) {
+        return decoder::reset();
+    }
+    p.decoder
+}
+
+// A block that was not played: the number, the player's record as it came, and 0 in every other field.
+fn not_played(number: u8, p: Player) -> Played
+    ensures { λ r. ⌜ r ≡ notPlayed number p ⌝ }
 {
     Played {
         number: number,
         index: 0,
-        next: d,
+        next: p,
         take: 0,
         block: 0,
         mode: 0,
@@ -135,31 +179,36 @@ fn not_played(number: u8, d: Decoder) -> Played
     }
 }
 
-// Reads a block and decodes its octets, from inside it, into the front of the samples.
-// It gives reading's refusals, then 3 where the samples are too few, then the decoder's.
-pub fn play(d: Decoder, b: &[u8], samples: &mut [i16]) -> Played
-    ensures { λ r. ⌜ Does (playCall d (now (b .entry)) (now (samples .entry))) r (now (samples .exit)) ⌝ }
+// Reads a block and decodes its octets, from inside it, into the front of the samples, from reset where a take begins.
+// It gives reading's refusals, then 3 where the samples are too few, then 2 where the player's record is broken.
+pub fn play(p: Player, b: &[u8], samples: &mut [i16]) -> Played
+    ensures { λ r. ⌜ Does (playCall p (now (b .entry)) (now (samples .entry))) r (now (samples .exit)) ⌝ }
 {
     let read = block::read(b);
     if read.number != 0 {
-        return not_played(read.number, d);
+        return not_played(read.number, p);
     }
     let count = read.count;
     let size = 2 * count;
     if samples.len() < size {
-        return not_played(3, d);
+        return not_played(3, p);
     }
+    if !decoder::good_decoder(p.decoder) {
+        return not_played(2, p);
+    }
+    let d = decoder_for(p, read);
     let done = decoder::decode(d, read.mode, &b[12..12 + count], &mut samples[..size]);
-    if done.number != 0 {
-        return not_played(done.number, d);
-    }
     let next = done.next;
     let first = samples[0];
     let last = samples[size - 1];
     Played {
         number: 0,
         index: 0,
-        next: next,
+        next: Player {
+            decoder: next,
+            begun: true,
+            take: read.take,
+        },
         take: read.take,
         block: read.block,
         mode: read.mode,

@@ -3,11 +3,11 @@ ghost use mathlib.Core.Path.{_≡_};
 ghost use Prim.Native.Nat.{_≤_};
 ghost use lib.ListN.{length};
 ghost use Rattle.recording.specs.Walk.{stepAt, nextAt};
-use g722::Decoder;
 use libc::STDERR_FILENO;
 use libc::STDIN_FILENO;
 use libc::STDOUT_FILENO;
 use lines::Line;
+use recording::Player;
 use recording::Reader;
 use recording::Step;
 
@@ -52,23 +52,23 @@ fn line(s: Step, first: i16, last: i16, before: usize) -> Line
     lines::block_line(b.take, b.block, b.mode, b.count, first, last)
 }
 
-// What a block leaves: the decoder after it, and whether to walk on.
+// What a block leaves: the player after it, and whether to walk on.
 struct Onward {
-    next: Decoder,
+    next: Player,
     more: bool,
 }
 
 // Plays a whole block and prints the line of what the reader says of it.
-fn list(d: Decoder, s: Step, before: usize, block: &[u8], samples: &mut [i16]) -> Onward {
-    let p = recording::play(d, block, samples);
-    let next = p.next;
-    let printed = print(line(s, p.first, p.last, before));
-    if p.number != 0 {
+fn list(p: Player, s: Step, before: usize, block: &[u8], samples: &mut [i16]) -> Onward {
+    let played = recording::play(p, block, samples);
+    let next = played.next;
+    let printed = print(line(s, played.first, played.last, before));
+    if played.number != 0 {
         io::write_all(STDERR_FILENO, b"stopped at a block that is refused\n");
     }
     Onward {
         next: next,
-        more: printed && p.number == 0,
+        more: printed && played.number == 0,
     }
 }
 
@@ -83,16 +83,16 @@ fn finish(s: Step, before: usize) {
 // Walks over the whole blocks and to the end.
 fn run(src: &[u8]) {
     let mut samples = [0i16; 960];
-    let mut d = decoder::reset();
+    let mut p = recording::start();
     let mut s = first(src);
     let mut at: usize = 0;
     while at < src.len() / 512 {
         let from = 512 * at;
-        let t = list(d, s, at, &src[from..from + 512], &mut samples);
+        let t = list(p, s, at, &src[from..from + 512], &mut samples);
         if !t.more {
             return;
         }
-        d = t.next;
+        p = t.next;
         s = after(src, at);
         at += 1;
     }

@@ -32,9 +32,9 @@ second decode MODE [WRONG]       octets to samples, mode 0 to 3
 second put MODE FILE             the bytes of a file into octets
 second take MODE                 the bytes out of octets
 second log TAKE MODE             octets to a recording
-second listing                   a recording to its lines
+second listing [WRONG]           a recording to its lines
 second material KIND SEED N      N samples or octets
-second tells SEED                which material tells which wrong variant
+second tells SEED                which material tells which wrong codec
 second sequences DIR             the test sequences of appendix II, into the folder";
 
 /// Fills the buffer from standard input as far as the input goes.
@@ -160,8 +160,8 @@ fn log(take: u32, mode: u8) -> Result<(), Fault> {
 }
 
 /// Lists the recording on standard input.
-fn list() -> Result<(), Fault> {
-    io::stdout().write_all(listing::listing(&everything()?, Wrong::None).as_bytes())?;
+fn list(wrong: Wrong) -> Result<(), Fault> {
+    io::stdout().write_all(listing::listing(&everything()?, wrong).as_bytes())?;
     Ok(())
 }
 
@@ -176,12 +176,12 @@ fn write_material(kind: &str, seed: &str, n: &str) -> Result<(), Fault> {
     Ok(())
 }
 
-/// Prints for each wrong variant the kinds that tell it, with the first octet
+/// Prints for each wrong codec the kinds that tell it, with the first octet
 /// (coder) or sample (decoder in modes 1, 2, 3 and changing) that differs.
 fn tells(seed: &str) -> Result<(), Fault> {
     let material = material::material(number(seed)?);
     let place = |at: Option<usize>| at.map_or("-".to_string(), |at| at.to_string());
-    for wrong in wrong::ALL {
+    for wrong in wrong::CODEC {
         for (kind, stream) in &material {
             let told = compare::compare(stream, wrong);
             if told.apart() {
@@ -211,7 +211,7 @@ fn run(words: &[String]) -> Result<(), Fault> {
         ["put", mode, file] => put(number(mode)?, file),
         ["take", mode] => take(number(mode)?),
         ["log", take, mode] => log(number(take)?, number(mode)?),
-        ["listing"] => list(),
+        ["listing"] | ["listing", _] => list(variant(words.get(1))?),
         ["material", kind, seed, n] => write_material(kind, seed, n),
         ["tells", seed] => tells(seed),
         ["sequences", folder] => write_sequences(folder),

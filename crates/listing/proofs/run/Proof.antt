@@ -16,10 +16,10 @@ taken : (k : ℕ) → ltb k (2 ^ 64 - 1) ≡ true → (2 ^ 64 - (k + 1) < 2 ^ 64
 taken k e = let h = ltb-true k (2 ^ 64 - 1) e in (omega arith, omega arith)
 
 abbrev Inv-loop : tie.InvT-loop
-Inv-loop samples₀ d₀ before₀ more₀ samples d before more = length samples ≡ 960
+Inv-loop samples₀ p₀ before₀ more₀ samples p before more = length samples ≡ 960
 
 abbrev μ-loop : tie.MeasureT-loop
-μ-loop samples₀ d₀ before₀ more₀ samples d before more = 2 ^ 64 - before
+μ-loop samples₀ p₀ before₀ more₀ samples p before more = 2 ^ 64 - before
 
 add-before : tie.Need-add-before Inv-loop μ-loop
 add-before c = record { fits = taken _ (c .before .before .before .before .if1 .taken) .1 }

@@ -6,10 +6,11 @@ use Prim.Native.Nat.{_*_, _≤_}
 use native.Mathlib.Omega.{arith}
 use lib.ListN.{length, drop}
 use lib.Seq.{length-take-le}
+use borrow.Author.Tests.{not-true, not-false}
 use Rattle.laws.specs.Back.{back16}
 use Rattle.laws.specs.Outcome.{does}
-use Rattle.recording.specs.Played.{Bounds, play-unread, play-narrow}
-use Rattle.recording.proofs.Laws.{bounds, said-refused, said-done, played}
+use Rattle.recording.specs.Played.{Bounds, play-unread, play-narrow, play-broken}
+use Rattle.recording.proofs.Laws.{bounds, played, as-reported}
 use borrow.Author.Needs.{needs}
 use Rattle.recording.proofs.play.Statement.{statement}
 use Rattle.recording.proofs.play.Tie as tie
@@ -21,8 +22,7 @@ returns c =
 
 -- the block's bounds
 within : (c : tie.Else1) → Bounds (c .before .before .before .before .args .b .now) (c .before .before .read .result)
-within c = let s = c .before .before .before .before .args in
-    bounds (s .d) (s .b .now) (s .samples .now) _ (c .before .before .read .ensures) (c .if1 .left)
+within c = bounds (c .before .before .before .before .args .b .now) _ (c .before .before .read .ensures) (c .if1 .left)
 
 -- the samples are enough
 roomy : (c : tie.Else2) → 2 * c .before .before .before .read .result .count ≤ length
@@ -31,10 +31,10 @@ roomy c = omega arith
 
 -- and so they are after the call
 long : (c : tie.After-samples)
-    → let e = c .before .before .before .before .before in
+    → let e = c .before .before .before .before .before .before .before .before in
     2 * e .before .before .read .result .count ≤ length (c .before .decode .last .1 .1 .1 .0 ++ drop
     (2 * e .before .before .read .result .count) (e .before .before .before .before .args .samples .now))
-long c = omega (arith, roomy (c .before .before .before .before), c .samples .given)
+long c = omega (arith, roomy (c .before .before .before .before .before .before .before), c .samples .given)
 
 mul-size : tie.Need-mul-size
 mul-size c = omega (arith, within c .says .count-most)
@@ -44,42 +44,50 @@ returns-2 c =
     let e = c .before .before in
     does (play-narrow _ _ _ _ (e .before .before .read .ensures) (e .if1 .left) (omega arith)) (c .not-played2 .ensures) refl
 
+returns-3 : tie.Need-returns-3
+returns-3 c =
+    let f = c .before .before .before in
+    let e = f .before in
+    let broken = sym (c .before .before .good-decoder .ensures) ∙ not-true _ (c .before .if3 .taken) in
+    does (play-broken _ _ _ _ (e .before .before .read .ensures) (e .if1 .left) (roomy f) broken) (c .not-played3 .ensures) refl
+
+add-decode : tie.Need-add-decode
+add-decode c = omega (arith, within (c .before .before .before .before) .says .count-most)
+
 part-decode-end : tie.Need-part-decode-end
-part-decode-end c = omega (arith, within (c .before) .says .count-most, within (c .before) .size)
+part-decode-end c =
+    let b = within (c .before .before .before .before) in
+    omega (arith, b .says .count-most, b .size)
 
 slice-aggregate-decode : tie.Need-slice-aggregate-decode
 slice-aggregate-decode c = sym (length-take-le _ _ (omega arith))
 
-returns-3 : tie.Need-returns-3
-returns-3 c =
-    let t = c .before in
-    let e = t .before .before .before .before .before .before .before in
-    played _ _ _ _ (e .before .before .read .ensures) (e .if1 .left) (roomy (t .before .before .before .before .before .before))
-    (t .before .before .before .decode .ensures) (c .not-played3 .ensures ∙ sym (said-refused _ _ _ _ (t .if3 .taken)))
-
 slice-copy-out-first : tie.Need-slice-copy-out-first
 slice-copy-out-first c =
-    let t = c .before .before .before in
-    omega (arith, within (t .before .before .before .before .before) .says .count-least, long t)
+    let t = c .before in
+    omega (arith, within (t .before .before .before .before .before .before .before .before) .says .count-least, long t)
 
 sub-last : tie.Need-sub-last
-sub-last c = omega (arith, within (c .before .before .before .before .before .before .before .before .before) .says .count-least)
+sub-last c = omega (arith, within (c .before .before .before .before .before .before .before .before .before .before) .says .count-least)
 
 mul-last : tie.Need-mul-last
-mul-last c = omega (arith, within (c .before .before .before .before .before .before .before .before .before) .says .count-most)
+mul-last c = omega (arith, within (c .before .before .before .before .before .before .before .before .before .before) .says .count-most)
 
 slice-copy-out-last : tie.Need-slice-copy-out-last
 slice-copy-out-last c =
-    let t = c .before .before .before .before in
-    omega (arith, within (t .before .before .before .before .before) .says .count-least, long t)
+    let t = c .before .before in
+    omega (arith, within (t .before .before .before .before .before .before .before .before) .says .count-least, long t)
 
 returns-4 : tie.Need-returns-4
 returns-4 c =
     let t = c .before .before .before in
-    let e = t .before .before .before .before .before .before .before in
-    played _ _ _ _ (e .before .before .read .ensures) (e .if1 .left) (roomy (t .before .before .before .before .before .before))
-    (t .before .before .before .decode .ensures) (said-done _ _ _ _ (t .if3 .left) (back16 _ (c .before .first .given))
-    (back16 _ (c .last .given)))
+    let s = t .before .before .before .before .before in
+    let f = s .before .before in
+    let e = f .before in
+    let good = sym (s .before .good-decoder .ensures) ∙ not-false _ (s .if3 .left) in
+    let d = t .before .before .before .before .decoder-for .ensures in
+    played _ _ (e .before .before .read .ensures) (e .if1 .left) _ _ (roomy f) good d (t .before .decode .ensures)
+    (as-reported _ _ _ (back16 _ (c .before .first .given)) (back16 _ (c .last .given)))
 
 pub play-spec : {M : Type 1} → statement M
 play-spec =
@@ -91,16 +99,17 @@ play-spec =
     mul-size
     (λ c κs. search needs)
     returns-2
-    (λ c. search needs)
+    (λ c κs. search needs)
+    (λ c κs. search needs)
+    returns-3
+    (λ c κs. search needs)
+    add-decode
     (λ c. search needs)
     (λ c. search needs)
     part-decode-end
     (λ c. search needs)
     slice-aggregate-decode
     (λ c κs. search needs)
-    (λ c κs. search needs)
-    (λ c. search needs)
-    returns-3
     slice-copy-out-first
     sub-last
     mul-last

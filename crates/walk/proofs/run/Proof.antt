@@ -1,6 +1,6 @@
 -- `walk::run` is safe and ends. The measure is the number of whole blocks that are left.
 use mathlib.Core.Path.{_≡_}
-use Prim.Native.Nat.{_-_, _≤_, _/_}
+use Prim.Native.Nat.{_-_}
 use lib.IntN.{pos}
 use lib.ListN.{length, length-replicate}
 use native.Mathlib.Omega.{arith}
@@ -9,10 +9,10 @@ use Rattle.walk.proofs.run.Statement.{statement}
 use Rattle.walk.proofs.run.Tie as tie
 
 abbrev Inv-loop : tie.InvT-loop
-Inv-loop src samples₀ d₀ s₀ at₀ samples d s at = length samples ≡ 960
+Inv-loop src samples₀ p₀ s₀ at₀ samples p s at = length samples ≡ 960
 
 abbrev μ-loop : tie.MeasureT-loop
-μ-loop src samples₀ d₀ s₀ at₀ samples d s at = length src - at
+μ-loop src samples₀ p₀ s₀ at₀ samples p s at = length src - at
 
 mul-from : tie.Need-mul-from Inv-loop μ-loop
 mul-from c = omega arith
