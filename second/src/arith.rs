@@ -36,15 +36,6 @@ pub fn sign(value: i32) -> i32 {
     }
 }
 
-/// A >> n; a negative n shifts to the left.
-pub fn shift_right(value: i32, count: i32) -> i32 {
-    if count >= 0 {
-        value >> count
-    } else {
-        value << -count
-    }
-}
-
 /// LIMIT: the 15-bit range of XIN, XL, XH, RL, RH and XOUT.
 pub fn limit(value: i32) -> i32 {
     value.clamp(-16384, 16383)

@@ -1,6 +1,6 @@
 //! Blocks 1 to 3 and INVQBL: quantisers, their inverses and the scale factors.
 
-use crate::arith::{add, mul, shift_right, sign, sub};
+use crate::arith::{add, mul, sign, sub};
 use crate::tables::*;
 use crate::Wrong;
 
@@ -96,19 +96,18 @@ pub fn logsch(ih: u8, nbh: i32, wrong: Wrong) -> i32 {
     add(mul(nbh, 32512, wrong), WH[ih2 - 1]).clamp(0, 22528)
 }
 
-/// Method 2 of SCALEL and SCALEH, where `full` is 8 or 10.
-fn scale(log_factor: i32, full: i32) -> i32 {
-    let wd1 = (log_factor >> 6) & 31;
-    let wd2 = log_factor >> 11;
-    shift_right(ILB[wd1 as usize], full - wd2) << 2
+/// Method 1 of SCALEL and SCALEH: the scale factor at an address of ILA. The
+/// limits of the log factors keep it within the table.
+fn scale(address: i32) -> i32 {
+    (ILA[address as usize] + 1) << 2
 }
 
 /// SCALEL: the scale factor of the low band.
 pub fn scalel(nbpl: i32) -> i32 {
-    scale(nbpl, 8)
+    scale((nbpl >> 6) + 64)
 }
 
 /// SCALEH: the scale factor of the high band.
 pub fn scaleh(nbph: i32) -> i32 {
-    scale(nbph, 10)
+    scale(nbph >> 6)
 }

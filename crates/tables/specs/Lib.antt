@@ -1,2 +1,4 @@
 -- How large the entries of the tables are.
 pub mod Entries
+-- ILB as the code keeps it.
+pub mod Rows

@@ -1,11 +1,11 @@
--- `tables::ila_at` meets its contract: the constant is the printed column, read at its place.
+-- `ila::ila_at` meets its contract: the constant is the printed column, read at its place.
 use mathlib.Core.Path.{refl}
 use native.Mathlib.Omega.{arith}
 use borrow.Author.Needs.{needs}
 use Rattle.g722.specs.Tables.{ila}
 use Rattle.tables.specs.Entries.{above-table}
-use Rattle.tables.proofs.scale.ila_at.Statement.{statement}
-use Rattle.tables.proofs.scale.ila_at.Tie as tie
+use Rattle.ila.proofs.ila_at.Statement.{statement}
+use Rattle.ila.proofs.ila_at.Tie as tie
 
 returns : tie.Need-returns
 unfolding ila
