@@ -10,6 +10,9 @@
  * Octets     are what goes over the line, 8000 a second: one for each pair of samples, so n octets are 4 * n bytes of
  *            samples. A call takes n from 0 to ZELCANDRY_MOST_OCTETS. Wherever a stream is cut into calls, it comes
  *            out the same.
+ * Signals    are what stands between octets and samples where decoding is made in its two steps: a low one, of what is
+ *            below 4 kHz, and a high one, of what is above, a pair of them for each octet. They have the bytes and the
+ *            bounds of samples.
  * State      is what an end of the line remembers: ZELCANDRY_CODER_BYTES or ZELCANDRY_DECODER_BYTES bytes that the
  *            caller keeps, one run of them for each stream. A call reads it and leaves the next one in its place. It
  *            may be copied, stored and sent like any bytes; docs/C.md of the project has its layout.
@@ -25,7 +28,7 @@
  *            and may be null. No alignment is asked.
  * Threads    Nothing is kept between calls and nothing is allocated, so threads may call at the same time, each on
  *            memory of its own.
- * Stack      At most 40 kB a call.
+ * Stack      At most 40 kB a call, and 72 kB in zelcandry_join.
  * Machine    x86-64, any of them. The archive needs nothing else, not even the C library.
  */
 #ifndef ZELCANDRY_H
@@ -62,8 +65,8 @@ enum zelcandry_refusal {
     ZELCANDRY_DONE = 0,       /* not refused */
     ZELCANDRY_BAD_MODE = 1,   /* the mode is above 3 */
     ZELCANDRY_BAD_STATE = 2,  /* the state has another length, is of the other end, or breaks its bounds */
-    ZELCANDRY_BAD_LENGTH = 3, /* more than 8000 octets; samples not 4 bytes an octet; data that does not fill the octets */
-    ZELCANDRY_BAD_SAMPLE = 4, /* a sample is outside -16384..16383; the index says which, the first counting as 0 */
+    ZELCANDRY_BAD_LENGTH = 3, /* more than 8000 octets or pairs; lengths that do not fit together */
+    ZELCANDRY_BAD_SAMPLE = 4, /* a sample, or a signal, is outside -16384..16383; the index says which, from 0 up */
     ZELCANDRY_NO_DATA = 5     /* mode 0 or 1, which has no room for data */
 };
 
@@ -89,6 +92,22 @@ uint64_t zelcandry_code(uint8_t *state, size_t state_len,
 uint64_t zelcandry_decode(uint8_t *state, size_t state_len, uint8_t mode,
                           const uint8_t *octets, size_t octets_len,
                           uint8_t *samples, size_t samples_len);
+
+/* Decoding in its two steps, for a program that does something to the signals between them. zelcandry_hear moves both
+ * bands of the decoder's state on and leaves its past pairs; zelcandry_join moves the past pairs and leaves the bands.
+ * Hearing octets and then joining their signals leaves the samples and the state that zelcandry_decode leaves.
+ *
+ * The first step: octets to low_len = high_len = 2 * octets_len bytes of low and high signals.
+ * Refused, in this order: BAD_MODE, BAD_LENGTH, BAD_STATE. */
+uint64_t zelcandry_hear(uint8_t *state, size_t state_len, uint8_t mode,
+                        const uint8_t *octets, size_t octets_len,
+                        uint8_t *low, size_t low_len, uint8_t *high, size_t high_len);
+
+/* The second step: low_len = high_len bytes of signals to samples_len = 2 * low_len bytes of samples.
+ * Refused, in this order: BAD_LENGTH, BAD_STATE, BAD_SAMPLE, of which the index counts pairs of signals. */
+uint64_t zelcandry_join(uint8_t *state, size_t state_len,
+                        const uint8_t *low, size_t low_len, const uint8_t *high, size_t high_len,
+                        uint8_t *samples, size_t samples_len);
 
 /* Puts data into the last bits of octets, the highest bit of each byte first, and changes no other bit. The data has to
  * fill the octets: one byte for 8 octets in mode 2, for 4 in mode 3.

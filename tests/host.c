@@ -1,4 +1,4 @@
-/* The four calls as a C or C++ program sees them: the worked sums, every refusal in its order, every wrong length, every byte of
+/* The six calls as a C or C++ program sees them: the worked sums, every refusal in its order, every wrong length, every byte of
  * the state spoilt, and nothing touched that is not to be. What a call must answer is worked out here from the rules of SCOPE;
  * what is coded and heard is compared with a second codec elsewhere (rust/tests). It stops at the first fault. */
 #ifndef _GNU_SOURCE
@@ -15,12 +15,14 @@
 /* The declarations, held by the compiler. */
 static uint64_t (*const code)(uint8_t *, size_t, const uint8_t *, size_t, uint8_t *, size_t) = zelcandry_code;
 static uint64_t (*const decode)(uint8_t *, size_t, uint8_t, const uint8_t *, size_t, uint8_t *, size_t) = zelcandry_decode;
+static uint64_t (*const hear)(uint8_t *, size_t, uint8_t, const uint8_t *, size_t, uint8_t *, size_t, uint8_t *, size_t) = zelcandry_hear;
+static uint64_t (*const join)(uint8_t *, size_t, const uint8_t *, size_t, const uint8_t *, size_t, uint8_t *, size_t) = zelcandry_join;
 static uint64_t (*const put)(uint8_t, uint8_t *, size_t, const uint8_t *, size_t) = zelcandry_put;
 static uint64_t (*const take)(uint8_t, const uint8_t *, size_t, uint8_t *, size_t) = zelcandry_take;
 
 /* ---- lent memory: a room between two stretches that may be neither read nor written. What is lent stands at one end of it, so
  * that a step over that end ends the program; a zone of the room beside the other end is seen to be untouched. */
-enum { ROOM = 1 << 16, ZONE = 256, STATE = 125 };
+enum { ROOM = 1 << 16, ZONE = 256, STATE = 125, BANDS = 81, RUNS = 6 };
 
 struct lent {
     uint8_t *room, *at;
@@ -28,17 +30,19 @@ struct lent {
     uint8_t was[ROOM];
 };
 
-static struct lent state, samples, octets, data;
-static struct lent *const all[] = {&state, &samples, &octets, &data};
+static struct lent state, samples, octets, low, high, data;
+static struct lent *const all[RUNS] = {&state, &samples, &octets, &low, &high, &data};
 static int at_end;   /* which end of the room */
 static uint8_t mode; /* what the next call is told */
 static unsigned long calls;
 
 static void fault(const char *what, uint64_t got, uint64_t want)
 {
-    printf("host: FAILED: %s: answer %llx, wanted %llx; mode %d, lengths %lu %lu %lu %lu\n", what, (unsigned long long)got,
-           (unsigned long long)want, mode, (unsigned long)state.len, (unsigned long)samples.len, (unsigned long)octets.len,
-           (unsigned long)data.len);
+    printf("host: FAILED: %s: answer %llx, wanted %llx; mode %d, lengths", what, (unsigned long long)got, (unsigned long long)want,
+           mode);
+    for (int i = 0; i < RUNS; i++)
+        printf(" %lu", (unsigned long)all[i]->len);
+    printf("\n");
     exit(1);
 }
 
@@ -51,7 +55,7 @@ static uint8_t chance(void)
 
 static void make_rooms(void)
 {
-    for (int i = 0; i < 4; i++) {
+    for (int i = 0; i < RUNS; i++) {
         uint8_t *p = (uint8_t *)mmap(NULL, 3 * ROOM, PROT_NONE, MAP_PRIVATE | MAP_ANONYMOUS, -1, 0);
         if (p == (uint8_t *)MAP_FAILED || mprotect(p + ROOM, ROOM, PROT_READ | PROT_WRITE))
             fault("no memory", 0, 0);
@@ -75,19 +79,26 @@ static int touched(const struct lent *l, int whole)
     return memcmp(zone, l->was + (zone - l->room), ZONE) || (whole && memcmp(l->at, l->was + (l->at - l->room), l->len));
 }
 
-/* ---- what is asked of samples and states: SCOPE 2 and 14 to 22 */
+/* ---- what is asked of samples, signals and states: SCOPE 2 and 14 to 22 */
 static int value(const uint8_t *p)
 {
     int x = 256 * p[0] + p[1];
     return x < 32768 ? x : x - 65536;
 }
 
-static int in_range(const uint8_t *p, size_t n, size_t *first)
+static void put_value(uint8_t *p, int x)
 {
-    for (*first = 0; *first < n; ++*first)
-        if (value(p + 2 * *first) < -16384 || value(p + 2 * *first) > 16383)
-            return 0;
-    return 1;
+    p[0] = (uint8_t)(x >> 8 & 255);
+    p[1] = (uint8_t)(x & 255);
+}
+
+/* The index of the first of n values that is out of range, or n. */
+static size_t first_bad(const uint8_t *p, size_t n)
+{
+    size_t i = 0;
+    while (i < n && -16384 <= value(p + 2 * i) && value(p + 2 * i) <= 16383)
+        i++;
+    return i;
 }
 
 /* The scale factor by the second method of G.722, 6: Table 15, and a shift. */
@@ -109,26 +120,41 @@ static int good_band(const uint8_t *p, int most, int full)
 static int good_state(uint8_t kind)
 {
     const uint8_t *p = state.at;
-    size_t first;
     return state.len == STATE && p[0] == kind && good_band(p + 1, 18432, 8) && good_band(p + 41, 22528, 10)
-        && in_range(p + 81, 22, &first);
+        && first_bad(p + BANDS, 22) == 22;
 }
 
-/* ---- a call of each kind, what it must answer, and what it may write */
-enum call { CODE, DECODE, PUT, TAKE };
+/* ---- a call of each kind, what it must answer, and what it may write. Those up to JOIN have a state. */
+enum call { CODE, DECODE, HEAR, JOIN, PUT, TAKE, CALLS };
+
+static int reads(enum call c, const struct lent *l)
+{
+    return (l == &samples && c == CODE) || (l == &octets && (c == DECODE || c == HEAR || c == TAKE))
+        || ((l == &low || l == &high) && c == JOIN) || (l == &data && c == PUT);
+}
+
+static int writes(enum call c, const struct lent *l)
+{
+    return (l == &state && c <= JOIN) || (l == &octets && (c == CODE || c == PUT)) || (l == &samples && (c == DECODE || c == JOIN))
+        || ((l == &low || l == &high) && c == HEAR) || (l == &data && c == TAKE);
+}
 
 static uint64_t expected(enum call c)
 {
-    size_t n = octets.len, first;
-    if (c != CODE && mode > 3)
+    size_t n = c == JOIN ? low.len / 2 : octets.len, first;
+    int steps = c == HEAR || c == JOIN;
+    if (c != CODE && c != JOIN && mode > 3)
         return 1;
     if (c == PUT || c == TAKE)
         return mode < 2 ? 5 : n > 8000 || 8 * data.len != (mode - 1) * n ? 3 : 0;
-    if (n > 8000 || samples.len != 4 * n)
+    if (n > 8000 || (c != HEAR && samples.len != 4 * n) || (steps && (low.len != 2 * n || high.len != 2 * n)))
         return 3;
     if (!good_state(c == CODE ? 1 : 2))
         return 2;
-    return c == CODE && !in_range(samples.at, 2 * n, &first) ? 4 + 256 * (uint64_t)first : 0;
+    if (c == CODE)
+        return (first = first_bad(samples.at, 2 * n)) < 2 * n ? 4 + 256 * (uint64_t)first : 0;
+    /* of a pair either may be the one */
+    return c == JOIN && (first = first_bad(high.at, first_bad(low.at, n))) < n ? 4 + 256 * (uint64_t)first : 0;
 }
 
 static uint64_t made(enum call c)
@@ -138,6 +164,10 @@ static uint64_t made(enum call c)
         return code(state.at, state.len, samples.at, samples.len, octets.at, octets.len);
     case DECODE:
         return decode(state.at, state.len, mode, octets.at, octets.len, samples.at, samples.len);
+    case HEAR:
+        return hear(state.at, state.len, mode, octets.at, octets.len, low.at, low.len, high.at, high.len);
+    case JOIN:
+        return join(state.at, state.len, low.at, low.len, high.at, high.len, samples.at, samples.len);
     case PUT:
         return put(mode, octets.at, octets.len, data.at, data.len);
     default:
@@ -145,17 +175,11 @@ static uint64_t made(enum call c)
     }
 }
 
-static int writes(enum call c, const struct lent *l)
-{
-    return (l == &state && c <= DECODE) || (l == &octets && (c == CODE || c == PUT)) || (l == &samples && c == DECODE)
-        || (l == &data && c == TAKE);
-}
-
 /* Makes a call and looks at all that may be seen of it. Gives the number back. */
 static unsigned attempt(const char *what, enum call c)
 {
     uint64_t want = expected(c), got;
-    for (int i = 0; i < 4; i++) {
+    for (int i = 0; i < RUNS; i++) {
         uint8_t *from = at_end ? all[i]->at - ZONE : all[i]->at;
         memcpy(all[i]->was + (from - all[i]->room), from, all[i]->len + ZONE);
     }
@@ -163,12 +187,24 @@ static unsigned attempt(const char *what, enum call c)
     calls++;
     if (got != want || zelcandry_number(got) != (want & 255) || zelcandry_index(got) != want >> 8)
         fault(what, got, want);
-    for (int i = 0; i < 4; i++)
+    for (int i = 0; i < RUNS; i++)
         if (touched(all[i], want != 0 || !writes(c, all[i])))
             fault("memory was touched", got, want);
-    if (want == 0 && c <= DECODE && !good_state(c == CODE ? 1 : 2))
+    if (want == 0 && c <= JOIN && !good_state(c == CODE ? 1 : 2))
         fault("a broken state was left", got, want);
+    if (want == 0 && c == HEAR && memcmp(state.at + BANDS, state.was + (state.at - state.room) + BANDS, STATE - BANDS))
+        fault("the first step moved the past pairs", got, want);
+    if (want == 0 && c == JOIN && memcmp(state.at, state.was + (state.at - state.room), BANDS))
+        fault("the second step moved a band", got, want);
     return zelcandry_number(got);
+}
+
+/* Lends values of two bytes that are all in range. */
+static void lend_values(struct lent *l, size_t n)
+{
+    lend(l, 2 * n);
+    for (size_t i = 0; i < 2 * n; i += 2)
+        l->at[i] = (uint8_t)((l->at[i] & 127) - 64);
 }
 
 /* Lends all that a good call of n octets needs. The state is one in the middle of a run. */
@@ -176,18 +212,19 @@ static void lend_good(enum call c, size_t n)
 {
     static uint8_t run[2][STATE] = {ZELCANDRY_CODER_RESET, ZELCANDRY_DECODER_RESET};
     static size_t moved[2];
+    int end = c != CODE;
     lend(&state, STATE);
-    lend(&samples, 4 * n);
+    lend_values(&samples, 2 * n);
     lend(&octets, n);
+    lend_values(&low, n);
+    lend_values(&high, n);
     lend(&data, mode == 2 || mode == 3 ? (mode - 1) * n / 8 : 0);
-    for (size_t i = 0; i < 4 * n; i += 2)
-        samples.at[i] = (uint8_t)((samples.at[i] & 127) - 64);
-    if (c > DECODE)
+    if (c > JOIN)
         return;
-    memcpy(state.at, run[c], STATE);
-    if (moved[c] < 2000 && expected(c) == 0 && attempt("a run", c) == 0) {
-        memcpy(run[c], state.at, STATE);
-        moved[c] += n;
+    memcpy(state.at, run[end], STATE);
+    if (moved[end] < 2000 && expected(c) == 0 && attempt("a run", c) == 0) {
+        memcpy(run[end], state.at, STATE);
+        moved[end] += n;
     }
 }
 
@@ -224,20 +261,45 @@ static void sums(void)
     }
 }
 
-/* Every length from 0 to two more than fits, of each thing lent; around the most octets those near it. */
+/* One octet and one pair at reset: signals by the output values of G.722 (11/88), 6, with the scale factors 32 and 8, and samples by
+ * the filter's first two coefficients, 3 and -11. */
+static void step_sums(void)
+{
+    static const uint8_t reset[STATE] = ZELCANDRY_DECODER_RESET;
+    static const struct { enum call c; uint8_t mode, octet; int low, high, first, second; } rows[] = {
+        {HEAR, 1, 0xFA, 1, 0, 0, 0}, {HEAR, 2, 0xFA, 0, 0, 0, 0}, {HEAR, 0, 0xFF, -1, 0, 0, 0}, {HEAR, 3, 0xFF, 0, 0, 0, 0},
+        {HEAR, 1, 0x97, -4, 1, 0, 0}, {HEAR, 3, 0x97, -5, 1, 0, 0}, {HEAR, 0, 0x04, -25, -2, 0, 0}, {HEAR, 1, 0x04, -25, -2, 0, 0},
+        {HEAR, 2, 0x04, -23, -2, 0, 0}, {HEAR, 3, 0x04, -20, -2, 0, 0}, {JOIN, 0, 0, 16383, -16384, 23, 0},
+        {JOIN, 0, 0, -16384, 16383, -24, 0}, {JOIN, 0, 0, 16383, 16383, 0, -88}, {JOIN, 0, 0, -16384, -16384, 0, 88},
+    };
+    for (size_t i = 0; i < sizeof rows / sizeof *rows; i++) {
+        enum call c = rows[i].c;
+        mode = rows[i].mode;
+        lend_good(PUT, 1);
+        memcpy(state.at, reset, STATE);
+        octets.at[0] = rows[i].octet;
+        if (c == JOIN) {
+            put_value(low.at, rows[i].low);
+            put_value(high.at, rows[i].high);
+        }
+        if (attempt("a worked step", c) != 0 || value(low.at) != rows[i].low || value(high.at) != rows[i].high
+            || (c == JOIN && (value(samples.at) != rows[i].first || value(samples.at + 2) != rows[i].second)))
+            fault("a worked step came out otherwise", i, 0);
+    }
+}
+
+/* Every length from 0 to two more than fits, of each thing lent; of long calls those near it. */
 static void lengths(enum call c, size_t n)
 {
-    size_t most = 4 * n + 2, step = n > 160 ? 4 * n - 2 : 1;
-    for (size_t k = 0; k <= most; k += k + 1 < step ? step : 1) {
+    for (int i = 1; i < RUNS; i++) {
         lend_good(c, n);
-        lend(&samples, k);
-        memset(samples.at, 0, k);
-        attempt("a length of samples", c);
-    }
-    for (size_t k = n > 160 ? n - 2 : 0; k <= n + 2; k++) {
-        lend_good(c, n);
-        lend(&octets, k);
-        attempt("a length of octets", c);
+        size_t fitting = all[i]->len, most = reads(c, all[i]) || writes(c, all[i]) ? fitting + 2 : 0;
+        for (size_t k = 0; k <= most; k += n > 160 && k + 2 < fitting ? fitting - 2 - k : 1) {
+            lend_good(c, n);
+            lend(all[i], k);
+            memset(all[i]->at, 0, k);
+            attempt("a length", c);
+        }
     }
     for (size_t k = 0; k <= STATE + 2; k++) {
         lend_good(c, n);
@@ -246,6 +308,21 @@ static void lengths(enum call c, size_t n)
         lend(&state, k);
         memcpy(state.at, kept, k);
         attempt("a length of the state", c);
+    }
+}
+
+/* Small lengths of all that a step is lent, each with each. */
+static void step_lengths(enum call c)
+{
+    struct lent *const lent[3] = {&low, &high, c == HEAR ? &octets : &samples};
+    for (size_t k = 0; k < 6 * 6 * 12; k++) {
+        const size_t len[3] = {k % 6, k / 6 % 6, k / 36};
+        lend_good(c, 1);
+        for (int i = 0; i < 3; i++) {
+            lend(lent[i], len[i]);
+            memset(lent[i]->at, 0, len[i]);
+        }
+        attempt("small lengths", c);
     }
 }
 
@@ -286,8 +363,8 @@ static void spoil_state(int way)
 /* Several faults at once: the answer is the first of them in the call's own order. */
 static void orders(int way)
 {
-    static const uint8_t order[4][3] = {{3, 2, 4}, {1, 3, 2}, {1, 5, 3}, {1, 5, 3}};
-    for (int c = 0; c < 4; c++)
+    static const uint8_t order[CALLS][3] = {{3, 2, 4}, {1, 3, 2}, {1, 3, 2}, {3, 2, 4}, {1, 5, 3}, {1, 5, 3}};
+    for (int c = 0; c < CALLS; c++)
         for (int faults = 0; faults < 8; faults++) {
             unsigned want = 0;
             mode = 2;
@@ -297,8 +374,8 @@ static void orders(int way)
                     switch (want = order[c][i]) {
                     case 1: mode = 4; break;
                     case 2: spoil_state(way); break;
-                    case 3: lend(&octets, 17); break;
-                    case 4: samples.at[2] = 0x40; break;
+                    case 3: lend(c == JOIN ? &high : &octets, 17); break;
+                    case 4: (c == JOIN ? &low : &samples)->at[2] = 0x40; break;
                     default: mode = 1;
                     }
             if (attempt("faults at once", (enum call)c) != want)
@@ -317,28 +394,76 @@ static void spoilt(enum call c)
             attempt("a spoilt state", c);
         }
     lend_good(c == CODE ? DECODE : CODE, 1);
-    memset(samples.at, 0, 4);
+    lend_values(&samples, 2);
     if (attempt("the other end's state", c) != ZELCANDRY_BAD_STATE)
         fault("the other end's state was taken", 0, 2);
 }
 
+/* The values next to the range and those at the ends of 16 bits. */
+static const int out[] = {16384, -16385, 32767, -32768};
+
 static void bad_samples(size_t n)
 {
-    static const int out[] = {16384, -16385, 32767, -32768};
     for (size_t i = 0; i < 2 * n; i += n > 160 ? n / 4 - 1 : 1)
         for (int k = 0; k < 4; k++) {
             lend_good(CODE, n);
-            samples.at[2 * i] = (uint8_t)(out[k] >> 8 & 255);
-            samples.at[2 * i + 1] = (uint8_t)(out[k] & 255);
+            put_value(samples.at + 2 * i, out[k]);
             samples.at[4 * n - 2] = k < 2 ? 0x7F : samples.at[4 * n - 2];
             if (attempt("a sample out of range", CODE) != ZELCANDRY_BAD_SAMPLE)
                 fault("a sample out of range was taken", i, 4);
         }
     lend_good(CODE, n);
-    for (size_t i = 0; i < n; i++)
-        memcpy(samples.at + 4 * i, "\x3F\xFF\xC0\x00", 4);
+    for (size_t i = 0; i < 2 * n; i++)
+        put_value(samples.at + 2 * i, i % 2 ? -16384 : 16383);
     if (attempt("both ends of the range", CODE) != 0)
         fault("both ends of the range were refused", 0, 0);
+}
+
+/* The first bad pair at the beginning, in the middle and at the end: in the low signals, the high ones, both, and both with the other
+ * later. */
+static void bad_pairs(size_t n)
+{
+    const size_t places[] = {0, n / 3, n / 2, n - 1};
+    for (size_t i = 0; i < 4; i++)
+        for (int k = 0; k < 20; k++) {
+            int who = k / 4;
+            lend_good(JOIN, n);
+            if (who != 1)
+                put_value(low.at + 2 * (who == 4 ? n - 1 : places[i]), out[k % 4]);
+            if (who != 0)
+                put_value(high.at + 2 * (who == 3 ? n - 1 : places[i]), out[3 - k % 4]);
+            if (attempt("a signal out of range", JOIN) != ZELCANDRY_BAD_SAMPLE)
+                fault("a signal out of range was taken", places[i], 4);
+        }
+    lend_good(JOIN, n);
+    for (size_t i = 0; i < n; i++) {
+        put_value(low.at + 2 * i, i % 2 ? 16383 : -16384);
+        put_value(high.at + 2 * i, i % 3 ? 16383 : -16384);
+    }
+    if (attempt("both ends of the range", JOIN) != 0)
+        fault("both ends of the range were refused", 0, 0);
+}
+
+/* The two steps in turn are the one call: the same samples and the same state. The second is cut in another place than the first. */
+static void in_turn(size_t n, size_t cut)
+{
+    static uint8_t kept[STATE], heard[ROOM], left[STATE];
+    for (mode = 0; mode <= 3; mode++) {
+        lend_good(DECODE, n);
+        memcpy(kept, state.at, STATE);
+        attempt("in one", DECODE);
+        memcpy(left, state.at, STATE);
+        memcpy(heard, samples.at, 4 * n);
+        memcpy(state.at, kept, STATE);
+        attempt("the first step", HEAR);
+        size_t rest = n - cut;
+        memset(samples.at, 0xA5, 4 * n);
+        if (join(state.at, STATE, low.at, 2 * cut, high.at, 2 * cut, samples.at, 4 * cut)
+            || join(state.at, STATE, low.at + 2 * cut, 2 * rest, high.at + 2 * cut, 2 * rest, samples.at + 4 * cut, 4 * rest))
+            fault("the second step is refused", n, cut);
+        if (memcmp(state.at, left, STATE) || memcmp(samples.at, heard, 4 * n))
+            fault("the two steps in turn are not the one", n, cut);
+    }
 }
 
 /* A length of 0 asks for no memory. */
@@ -346,7 +471,9 @@ static void nulls(void)
 {
     uint8_t both[2][STATE] = {ZELCANDRY_CODER_RESET, ZELCANDRY_DECODER_RESET};
     if (code(both[0], STATE, NULL, 0, NULL, 0) || decode(both[1], STATE, 1, NULL, 0, NULL, 0) || put(2, NULL, 0, NULL, 0)
-        || take(3, NULL, 0, NULL, 0) || code(NULL, 0, NULL, 0, NULL, 0) != 2 || decode(NULL, 0, 0, NULL, 0, NULL, 0) != 2)
+        || take(3, NULL, 0, NULL, 0) || code(NULL, 0, NULL, 0, NULL, 0) != 2 || decode(NULL, 0, 0, NULL, 0, NULL, 0) != 2
+        || hear(both[1], STATE, 1, NULL, 0, NULL, 0, NULL, 0) || join(both[1], STATE, NULL, 0, NULL, 0, NULL, 0)
+        || hear(NULL, 0, 0, NULL, 0, NULL, 0, NULL, 0) != 2 || join(NULL, 0, NULL, 0, NULL, 0, NULL, 0) != 2)
         fault("null with a length of 0", 0, 0);
 }
 
@@ -361,11 +488,18 @@ static void deepest(void)
     made(CODE);
     lend_good(DECODE, 8000);
     made(DECODE);
+    made(HEAR);
     made(PUT);
     made(TAKE);
 }
 
-static size_t stack_used(void)
+static void joining(void)
+{
+    lend_good(JOIN, 8000);
+    made(JOIN);
+}
+
+static size_t stack_used(void (*by)(void))
 {
     size_t left = 0;
     memset(stack, 0xA5, sizeof stack);
@@ -373,7 +507,7 @@ static size_t stack_used(void)
     there.uc_stack.ss_sp = stack;
     there.uc_stack.ss_size = sizeof stack;
     there.uc_link = &here;
-    makecontext(&there, deepest, 0);
+    makecontext(&there, by, 0);
     swapcontext(&here, &there);
     while (left < sizeof stack && stack[left] == 0xA5)
         left++;
@@ -385,12 +519,14 @@ int main(void)
     static const size_t sizes[] = {0, 1, 160, 7999, 8000, 8001};
     make_rooms();
     for (at_end = 0; at_end < 2; at_end++) {
-        for (int c = CODE; c <= DECODE; c++) {
+        for (int c = CODE; c <= JOIN; c++) {
             mode = 3;
             for (size_t i = 0; i < sizeof sizes / sizeof *sizes; i++)
                 lengths((enum call)c, sizes[i]);
             spoilt((enum call)c);
         }
+        step_lengths(HEAR);
+        step_lengths(JOIN);
         for (int c = PUT; c <= TAKE; c++) {
             data_lengths((enum call)c, 0, 162, 20);
             data_lengths((enum call)c, 7991, 8009, 1000);
@@ -398,16 +534,22 @@ int main(void)
         for (int c = DECODE; c <= TAKE; c++)
             modes((enum call)c);
         sums();
+        step_sums();
         for (int way = 0; way < 3; way++)
             orders(way);
         bad_samples(160);
         bad_samples(8000);
+        for (size_t i = 1; i < sizeof sizes / sizeof *sizes - 1; i++) {
+            bad_pairs(sizes[i]);
+            in_turn(sizes[i], sizes[i - 1]);
+            in_turn(sizes[i], sizes[i] / 3);
+        }
     }
     at_end = 0;
     nulls();
-    size_t used = stack_used();
-    if (used > 40000)
-        fault("stack", used, 40000);
-    printf("host: %lu calls as they must be; stack %lu bytes\n", calls, (unsigned long)used);
+    size_t used = stack_used(deepest), joined = stack_used(joining);
+    if (used > 40000 || joined > 72000)
+        fault("stack", used, joined);
+    printf("host: %lu calls as they must be; stack %lu bytes, %lu of join\n", calls, (unsigned long)used, (unsigned long)joined);
     return 0;
 }

@@ -1,4 +1,4 @@
-//! The four calls of `zelcandry.h` for Rust. What the header asks of memory, that the runs of a call
+//! The six calls of `zelcandry.h` for Rust. What the header asks of memory, that the runs of a call
 //! are there and do not overlap, is what slices are, so these functions are safe.
 
 include!(concat!(env!("OUT_DIR"), "/reset.rs"));
@@ -20,6 +20,27 @@ pub mod c {
             mode: u8,
             octets: *const u8,
             octets_len: usize,
+            samples: *mut u8,
+            samples_len: usize,
+        ) -> u64;
+        pub fn zelcandry_hear(
+            state: *mut u8,
+            state_len: usize,
+            mode: u8,
+            octets: *const u8,
+            octets_len: usize,
+            low: *mut u8,
+            low_len: usize,
+            high: *mut u8,
+            high_len: usize,
+        ) -> u64;
+        pub fn zelcandry_join(
+            state: *mut u8,
+            state_len: usize,
+            low: *const u8,
+            low_len: usize,
+            high: *const u8,
+            high_len: usize,
             samples: *mut u8,
             samples_len: usize,
         ) -> u64;
@@ -70,6 +91,33 @@ pub fn decode(
 ) -> Result<(), Refusal> {
     let (s, o, x) = (state.as_mut_ptr(), octets.as_ptr(), samples.as_mut_ptr());
     told(unsafe { c::zelcandry_decode(s, state.len(), mode, o, octets.len(), x, samples.len()) })
+}
+
+/// The first step of decoding: `octets` in a mode to `low` and `high` signals, two bytes of each for an
+/// octet.
+pub fn hear(
+    state: &mut [u8],
+    mode: u8,
+    octets: &[u8],
+    low: &mut [u8],
+    high: &mut [u8],
+) -> Result<(), Refusal> {
+    let (s, o) = (state.as_mut_ptr(), octets.as_ptr());
+    let (l, h) = (low.as_mut_ptr(), high.as_mut_ptr());
+    told(unsafe {
+        let n = (octets.len(), low.len(), high.len());
+        c::zelcandry_hear(s, state.len(), mode, o, n.0, l, n.1, h, n.2)
+    })
+}
+
+/// The second step: `low` and `high` signals to `samples`, four bytes for each pair.
+pub fn join(state: &mut [u8], low: &[u8], high: &[u8], samples: &mut [u8]) -> Result<(), Refusal> {
+    let (s, x) = (state.as_mut_ptr(), samples.as_mut_ptr());
+    let (l, h) = (low.as_ptr(), high.as_ptr());
+    told(unsafe {
+        let n = (low.len(), high.len(), samples.len());
+        c::zelcandry_join(s, state.len(), l, n.0, h, n.1, x, n.2)
+    })
 }
 
 /// Puts `data` into the last bits of `octets`.

@@ -38,5 +38,5 @@ fn header_declares_the_same() {
         assert!(header.contains(&bare(&wanted)), "the header does not say {wanted}");
         count += 1;
     }
-    assert_eq!((count, header.matches("uint64_t zelcandry_").count()), (4, 4));
+    assert_eq!((count, header.matches("uint64_t zelcandry_").count()), (6, 6));
 }

@@ -1,12 +1,12 @@
-//! The calls against the second codec: octets, samples, data, refusals, and what of the states both
-//! have, over streams cut in many ways with refused calls among the others.
+//! The calls against the second codec: octets, samples, signals, data, refusals, and what of the states
+//! both have, over streams cut in many ways with refused calls among the others.
 
 mod common;
 
 use common::{bytes, cuts, dice, of_octets, of_samples, samples};
 use second::cue::{put_in, take_out};
 use second::{Coder, Decoder, Wrong};
-use zelcandry::{code, decode, put, take, Refusal, CODER_RESET, DECODER_RESET};
+use zelcandry::{code, decode, hear, join, put, take, Refusal, CODER_RESET, DECODER_RESET};
 
 /// The second codec's answer in our words.
 fn told(answer: Result<(), second::Refusal>) -> Result<(), Refusal> {
@@ -103,6 +103,143 @@ fn decoding() {
             }
             assert_eq!(at, stream.len());
         }
+    }
+}
+
+/// One call of the first step of both, and the signals that they leave.
+fn signals(
+    state: &mut [u8],
+    other: &mut Decoder,
+    mode: u8,
+    given: &[u8],
+    n: [usize; 2],
+) -> Result<[Vec<i16>; 2], Refusal> {
+    let mut lent = n.map(|n| dice(n as u64, 2 * n));
+    let mut theirs = lent.clone().map(|bytes| samples(&bytes));
+    let before = state[81..].to_vec();
+    let ([low, high], [their_low, their_high]) = (&mut lent, &mut theirs);
+    let answer = hear(state, mode, given, low, high);
+    assert_eq!(answer, told(other.hear(mode, given, their_low, their_high)));
+    assert_eq!(lent, theirs.clone().map(|signals| bytes(&signals)));
+    assert_eq!(state[81..], before, "hearing moved the past pairs");
+    answer.map(|()| theirs)
+}
+
+/// One call of the second step of both, and the samples that they leave.
+fn joined(
+    state: &mut [u8],
+    other: &mut Decoder,
+    low: &[i16],
+    high: &[i16],
+    n: usize,
+) -> Result<Vec<i16>, Refusal> {
+    let mut lent = dice(n as u64, 2 * n);
+    let mut theirs = samples(&lent);
+    let before = state[..81].to_vec();
+    let answer = join(state, &bytes(low), &bytes(high), &mut lent);
+    assert_eq!(answer, told(other.join(low, high, &mut theirs)));
+    assert_eq!(lent, bytes(&theirs));
+    assert_eq!(state[..81], before, "joining moved a band");
+    answer.map(|()| theirs)
+}
+
+/// A stream of octets in calls, each with a roll of the dice.
+fn calls(stream: &[u8], seed: u64) -> Vec<(&[u8], u8)> {
+    let mut rest = stream;
+    let call = |(n, roll)| {
+        let (given, later) = rest.split_at(n);
+        rest = later;
+        (given, roll)
+    };
+    cuts(stream.len(), seed).into_iter().zip(dice(seed, 30000)).map(call).collect()
+}
+
+/// The signals of a stream, with refused calls between.
+fn all_signals(
+    state: &mut [u8; 125],
+    other: &mut Decoder,
+    stream: &[u8],
+    seed: u64,
+) -> [Vec<i16>; 2] {
+    let mut all = [vec![], vec![]];
+    for (given, roll) in calls(stream, seed) {
+        let (n, before) = (given.len(), *state);
+        signals(state, other, roll | 4, given, [n; 2]).unwrap_err();
+        signals(state, other, roll % 4, given, [n + 1, n]).unwrap_err();
+        signals(state, other, roll % 4, given, [n, n + 1]).unwrap_err();
+        assert_eq!(*state, before, "a refused call changed the state");
+        let got = signals(state, other, roll % 4, given, [n; 2]).unwrap();
+        same_bands(state, other.bands());
+        all.iter_mut().zip(got).for_each(|(all, got)| all.extend(got));
+    }
+    all
+}
+
+/// The samples of a stream of pairs, with refused calls between: a bad signal in either band or in both.
+fn all_samples(
+    state: &mut [u8; 125],
+    other: &mut Decoder,
+    stream: &[Vec<i16>; 2],
+    seed: u64,
+) -> Vec<i16> {
+    let mut all = vec![];
+    for (turn, n) in cuts(stream[0].len(), seed).into_iter().enumerate() {
+        let at = all.len() / 2;
+        let [low, high] = [0, 1].map(|band| &stream[band][at..at + n]);
+        let before = *state;
+        for bands in [[true, false], [false, true], [true, true]] {
+            let spoilt = [(low, bands[0], 7), (high, bands[1], 11)].map(|(signals, bad, skip)| {
+                let mut signals = signals.to_vec();
+                for place in (0..n).skip(turn % 50 * skip).step_by(61).filter(|_| bad) {
+                    signals[place] = [16384, -16385, i16::MAX, i16::MIN][place % 4];
+                }
+                signals
+            });
+            if spoilt != [low, high] {
+                joined(state, other, &spoilt[0], &spoilt[1], 2 * n).unwrap_err();
+            }
+        }
+        joined(state, other, low, high, 2 * n + 1).unwrap_err();
+        joined(state, other, low, &[high, &[0]].concat(), 2 * n).unwrap_err();
+        joined(state, other, &[low, &[0]].concat(), high, 2 * n).unwrap_err();
+        assert_eq!(*state, before, "a refused call changed the state");
+        all.extend(joined(state, other, low, high, 2 * n).unwrap());
+    }
+    all
+}
+
+#[test]
+fn steps() {
+    for seed in 0..2 {
+        for (kind, stream) in of_octets(seed, 12000) {
+            let (mut state, mut other) = (DECODER_RESET, Decoder::new(Wrong::None));
+            let mut pairs = all_signals(&mut state, &mut other, &stream, seed);
+            if seed % 2 == 1 {
+                pairs[0].iter_mut().for_each(|x| *x = -1 - *x);
+                pairs[1].rotate_left(5);
+            }
+            all_samples(&mut state, &mut other, &pairs, seed + 9);
+            same_bands(&state, other.bands());
+            let past = [&pairs[0], &pairs[1]].map(|x| x[x.len() - 11..].to_vec()).concat();
+            assert_eq!(state[81..], bytes(&past), "{kind:?} {seed}: the past pairs");
+        }
+    }
+}
+
+#[test]
+fn steps_in_turn_are_decoding() {
+    for (kind, stream) in of_octets(4, 12000) {
+        let (mut state, mut one) = (DECODER_RESET, DECODER_RESET);
+        let mut other = Decoder::new(Wrong::None);
+        let pairs = all_signals(&mut state, &mut other, &stream, 1);
+        let found = all_samples(&mut state, &mut other, &pairs, 2);
+        let mut heard = vec![];
+        for (given, roll) in calls(&stream, 1) {
+            let mut lent = vec![0; 4 * given.len()];
+            decode(&mut one, roll % 4, given, &mut lent).unwrap();
+            heard.extend(lent);
+        }
+        assert_eq!((state, bytes(&found)), (one, heard), "{kind:?}");
     }
 }
 

@@ -45,6 +45,48 @@ pub fn decode_all(octets: &[u8], modes: &[u8], call: usize, wrong: Wrong) -> Vec
     all
 }
 
+/// All low and high signals of the octets, from reset, in such calls.
+pub fn hear_all(octets: &[u8], modes: &[u8], call: usize, wrong: Wrong) -> [Vec<i16>; 2] {
+    let mut decoder = Decoder::new(wrong);
+    let mut all = [vec![], vec![]];
+    for (mode, piece) in modes.iter().cycle().zip(octets.chunks(call)) {
+        let [mut low, mut high] = [vec![0; piece.len()], vec![0; piece.len()]];
+        decoder.hear(*mode, piece, &mut low, &mut high).expect("the modes are 0 to 3");
+        all[0].append(&mut low);
+        all[1].append(&mut high);
+    }
+    all
+}
+
+/// All samples of signals in range, from reset.
+pub fn join_all(signals: &[Vec<i16>; 2], call: usize, wrong: Wrong) -> Vec<i16> {
+    let mut decoder = Decoder::new(wrong);
+    let mut all = Vec::new();
+    for (low, high) in signals[0].chunks(call).zip(signals[1].chunks(call)) {
+        let mut samples = vec![0; 2 * low.len()];
+        decoder.join(low, high, &mut samples).expect("the signals are in range");
+        all.append(&mut samples);
+    }
+    all
+}
+
+/// All samples of the octets, from reset, each call heard and then joined. They
+/// end where what was heard is refused, which only a wrong decoder does.
+pub fn step_all(octets: &[u8], modes: &[u8], call: usize, wrong: Wrong) -> Vec<i16> {
+    let mut decoder = Decoder::new(wrong);
+    let mut all = Vec::new();
+    for (mode, piece) in modes.iter().cycle().zip(octets.chunks(call)) {
+        let [mut low, mut high] = [vec![0; piece.len()], vec![0; piece.len()]];
+        let mut samples = vec![0; 2 * piece.len()];
+        decoder.hear(*mode, piece, &mut low, &mut high).expect("the modes are 0 to 3");
+        if decoder.join(&low, &high, &mut samples).is_err() {
+            break;
+        }
+        all.append(&mut samples);
+    }
+    all
+}
+
 /// The first place where two answers differ.
 fn first_difference<T: PartialEq>(one: &[T], other: &[T]) -> Option<usize> {
     one.iter().zip(other).position(|(a, b)| a != b)

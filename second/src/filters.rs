@@ -48,7 +48,7 @@ impl Transmit {
 }
 
 /// The receive filter and the pairs RL, RH it has been given since reset.
-#[derive(Clone, Debug)]
+#[derive(Clone, Debug, PartialEq, Eq)]
 pub struct Receive {
     wrong: Wrong,
     low: History,

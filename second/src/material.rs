@@ -248,7 +248,7 @@ fn ends(chance: &mut Chance, n: usize) -> Vec<u8> {
     joined(n, || {
         let (low, high) = (chance.between(1, 3) as usize, chance.between(1, 3) as usize);
         let length = chance.between(2600, 4000) as usize;
-        let at = |t: usize| extreme((t / high % 2) as u8 * 2, (t / low).is_multiple_of(2));
+        let at = |t: usize| extreme((t / high % 2) as u8 * 2, t / low % 2 == 0);
         let mut piece: Vec<u8> = (0..length).map(at).collect();
         let stir = chance.between(1, 30) as usize;
         piece.extend(rhythm(chance, stir));

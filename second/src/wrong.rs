@@ -1,6 +1,6 @@
 //! Errors that sound right for a while, each one switch.
 
-/// Which error the codec or the listing makes on purpose.
+/// Which error the codec, the listing or a step makes on purpose.
 #[derive(Clone, Copy, Debug, PartialEq, Eq, Default)]
 pub enum Wrong {
     /// The right codec.
@@ -52,6 +52,18 @@ pub enum Wrong {
     ResetLate,
     /// The listing resets the two bands and keeps the past pairs.
     PairsKept,
+    /// The low signals stand where the high ones belong, between both steps.
+    SignalsExchanged,
+    /// The first step gives its signals to the receive filter too.
+    HearMovesPairs,
+    /// The second step resets the two bands.
+    JoinForgetsBands,
+    /// The place of a bad pair of signals is counted in samples.
+    PlaceInSamples,
+    /// The first bad low signal goes before a bad high one of an earlier pair.
+    LowLookedFirst,
+    /// The second step joins the pairs before a bad one, and then refuses.
+    JoinedUntilBad,
 }
 
 /// The errors of the codec.
@@ -85,8 +97,18 @@ pub const LISTING: [Wrong; 6] = [
     Wrong::PairsKept,
 ];
 
+/// The errors of the two steps, which decoding in one does not make.
+pub const STEPS: [Wrong; 6] = [
+    Wrong::SignalsExchanged,
+    Wrong::HearMovesPairs,
+    Wrong::JoinForgetsBands,
+    Wrong::PlaceInSamples,
+    Wrong::LowLookedFirst,
+    Wrong::JoinedUntilBad,
+];
+
 /// The error of that name, as it is spelt above.
 pub fn by_name(name: &str) -> Option<Wrong> {
-    let errors = CODEC.into_iter().chain(LISTING);
+    let errors = CODEC.into_iter().chain(LISTING).chain(STEPS);
     errors.chain([Wrong::None]).find(|wrong| format!("{wrong:?}") == name)
 }

@@ -1,6 +1,6 @@
 //! The programs on bytes: what they write and what they refuse.
 
-use second::compare::{decode_all, encode_all};
+use second::compare::{decode_all, encode_all, hear_all, join_all};
 use second::material::{self, Kind, Stream};
 use second::Wrong;
 use std::io::Write;
@@ -69,6 +69,47 @@ fn a_sample_out_of_range_is_refused_with_its_place_in_the_stream() {
 fn a_mode_out_of_range_is_refused() {
     for mode in ["4", "256", "-1", "x"] {
         assert_eq!(run(&["decode", mode], &[0]), (vec![], "refused 1 0\n".to_string()));
+        assert_eq!(run(&["hear", mode], &[0]), (vec![], "refused 1 0\n".to_string()));
+    }
+}
+
+/// Low and high signals as bytes, each low one before its high one.
+fn woven(signals: &[Vec<i16>; 2]) -> Vec<u8> {
+    let pairs = signals[0].iter().zip(&signals[1]);
+    bytes(&pairs.flat_map(|(rl, rh)| [*rl, *rh]).collect::<Vec<i16>>())
+}
+
+#[test]
+fn long_streams_are_heard_and_joined() {
+    let octets = encode_all(&noise(50000), Wrong::None);
+    for mode in ["0", "1", "2", "3"] {
+        let signals = hear_all(&octets, &[mode.parse().unwrap()], 8000, Wrong::None);
+        assert_eq!(run(&["hear", mode], &octets), (woven(&signals), String::new()));
+        let samples = run(&["decode", mode], &octets);
+        assert_eq!(run(&["join"], &woven(&signals)), samples);
+    }
+    assert_eq!(run(&["hear", "1"], &[]), (vec![], String::new()));
+    assert_eq!(run(&["join"], &[]), (vec![], String::new()));
+    let exchanged =
+        |words: &[&str], input: &[u8]| run(words, input) != run(&words[..words.len() - 1], input);
+    assert!(exchanged(&["hear", "1", "SignalsExchanged"], &octets));
+    assert!(exchanged(&["join", "SignalsExchanged"], &bytes(&noise(100))));
+}
+
+#[test]
+fn pairs_are_joined_up_to_what_is_refused() {
+    let signals = [noise(20000), noise(20001)[1..].to_vec()];
+    let samples = bytes(&join_all(&signals, 8000, Wrong::None));
+    for (place, band) in [(0, 0), (7999, 1), (8000, 0), (15000, 1), (19999, 0)] {
+        let mut spoilt = signals.clone();
+        spoilt[band][place] = -16385;
+        spoilt[1 - band][19999] = 16384;
+        let (out, said) = run(&["join"], &woven(&spoilt));
+        assert_eq!((out.as_slice(), said), (&samples[..4 * place], format!("refused 4 {place}\n")));
+    }
+    for surplus in 1..4 {
+        let input = [woven(&signals), vec![0; surplus]].concat();
+        assert_eq!(run(&["join"], &input), (samples.clone(), "refused 3 0\n".to_string()));
     }
 }
 

@@ -6,6 +6,9 @@ use Rattle.bounds.proofs as bounds
 pub misfit : LeavesOne bounds.misfit.ended (λ M. bounds.misfit.clauses) bounds.misfit.Symbol.routine
 misfit = equation (λ κs a l m. refl) (λ M. bounds.misfit.Met.met)
 
+pub lesser : LeavesOne bounds.lesser.ended (λ M. bounds.lesser.clauses) bounds.lesser.Symbol.routine
+lesser = equation (λ κs a l m. refl) (λ M. bounds.lesser.Met.met)
+
 pub both : LeavesOne bounds.both.ended (λ M. bounds.both.clauses) bounds.both.Symbol.routine
 both = equation (λ κs a l m. refl) (λ M. bounds.both.Met.met)
 
@@ -14,6 +17,9 @@ in-range = equation (λ κs a l m. refl) (λ M. bounds.in_range.Met.met)
 
 pub all-in-range : LeavesOne bounds.all_in_range.ended (λ M. bounds.all_in_range.clauses) bounds.all_in_range.Symbol.routine
 all-in-range = equation (λ κs a l m. refl) (λ M. bounds.all_in_range.Met.met)
+
+pub first-bad : LeavesOne bounds.first_bad.ended (λ M. bounds.first_bad.clauses) bounds.first_bad.Symbol.routine
+first-bad = equation (λ κs a l m. refl) (λ M. bounds.first_bad.Met.met)
 
 pub good-poles : LeavesOne bounds.good_poles.ended (λ M. bounds.good_poles.clauses) bounds.good_poles.Symbol.routine
 good-poles = equation (λ κs a l m. refl) (λ M. bounds.good_poles.Met.met)

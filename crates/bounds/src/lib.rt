@@ -1,7 +1,8 @@
 // The bounds of records and of samples: SCOPE 2 and 14 to 22.
 ghost use mathlib.Core.Path.{_≡_};
 ghost use mathlib.Core.Bool.{_&&_};
-ghost use Rattle.g722.specs.Coding.{misfit};
+ghost use Prim.Native.Nat.{min};
+ghost use Rattle.g722.specs.Coding.{misfit, firstBad};
 ghost use Rattle.g722.specs.Records.{inRange, allInRange, goodPoles, goodLow, goodHigh, resetBand};
 use arith::equal;
 use arith::sub;
@@ -21,6 +22,16 @@ pub fn misfit(samples: usize, octets: usize) -> bool
         return true;
     }
     samples != 2 * octets
+}
+
+// The lesser of a and b.
+pub fn lesser(a: usize, b: usize) -> usize
+    ensures { λ r. ⌜ r ≡ min a b ⌝ }
+{
+    if a < b {
+        return a;
+    }
+    b
 }
 
 // Whether both hold.
@@ -49,6 +60,18 @@ pub fn all_in_range(xs: &[i16]) -> bool
         ok = both(ok, in_range(xs[i]));
     }
     ok
+}
+
+// The index of the first out of range, or the length where there is none.
+pub fn first_bad(xs: &[i16]) -> usize
+    ensures { λ r. ⌜ r ≡ firstBad (now (xs .entry)) ⌝ }
+{
+    for i in 0..xs.len() {
+        if !in_range(xs[i]) {
+            return i;
+        }
+    }
+    xs.len()
 }
 
 // Whether both pole coefficients lie within their bounds.

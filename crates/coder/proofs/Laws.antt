@@ -1,19 +1,17 @@
 -- Laws of the coder's step, run and call, on plain values.
 -- Assumes nothing.
-use mathlib.Core.Path.{_≡_, sym, ap, _∙_}
-use mathlib.Core.Bool.{true, false, cond}
+use mathlib.Core.Path.{_≡_, ap, _∙_}
+use mathlib.Core.Bool.{true, false}
 use mathlib.Core.List.{List, [], _∷_, _++_}
-use Prim.Native.Nat.{ℕ, zero, suc, _+_, _*_, _≤_, _<_}
-use native.Mathlib.Omega.{arith}
+use Prim.Native.Nat.{ℕ, _+_, _*_, _≤_, _<_}
 use borrow.Author.Tests.{lt-ltb, le-ltb}
 use lib.IntN.{ℤ, pos}
 use lib.ListN.{length, take, drop, getD, drop-of-length-le}
-use Rattle.laws.specs.Order.{by-test, no}
-use Rattle.laws.specs.Turns.{drop-one, drop-pair, put-all}
+use Rattle.laws.specs.Turns.{drop-pair, put-all}
 use Rattle.g722.specs.Arithmetic.{sub}
 use Rattle.g722.specs.Band.{predic, nextBand}
 use Rattle.g722.specs.Octet.{octet}
-use Rattle.g722.specs.Records.{inRange, allInRange, goodCoder}
+use Rattle.g722.specs.Records.{goodCoder}
 use Rattle.g722.specs.Coding.{window, ilOf, ihOf, octetOf, coderStep, octetsOf, coderAfter, firstBad, misfit, notCoded, coded, codeCall}
 use Rattle.g722.specs.declared.Factors.{Factors}
 use Rattle.g722.specs.declared.Band.{Band}
@@ -84,44 +82,6 @@ module _ (c : Coder) (s : List ℤ) (n : ℕ) (h : length s ≤ n) where
   pub octets-end : (o : List ℕ) (i : ℕ) → length o ≤ i → take i o ++ octetsOf c (drop n s) ≡ o
   unfolding octetsOf
   octets-end o i k = put-all o _ i k (ap (octetsOf c) (drop-of-length-le s h))
-
--- ---- the first bad sample
-
-module _ (s : List ℤ) (i : ℕ) (h : i < length s) where
-  bad-here : firstBad (drop i s) ≡ cond (inRange (getD s i (pos 0))) (suc (firstBad (drop (i + 1) s))) zero
-  unfolding firstBad
-  bad-here = ap firstBad (drop-one s i (pos 0) h)
-
-  pub bad-on : inRange (getD s i (pos 0)) ≡ true → (i + 1) + firstBad (drop (i + 1) s) ≡ i + firstBad (drop i s)
-  bad-on e =
-      let k : firstBad (drop i s) ≡ suc (firstBad (drop (i + 1) s)) = bad-here ∙ rw e in
-      omega arith
-
-  pub bad-stop : inRange (getD s i (pos 0)) ≡ false → i ≡ i + firstBad (drop i s)
-  bad-stop e =
-      let k : firstBad (drop i s) ≡ zero = bad-here ∙ rw e in
-      omega arith
-
-pub bad-end : (s : List ℤ) (i : ℕ) → length s ≤ i → firstBad (drop i s) ≡ zero
-unfolding firstBad
-bad-end s i k = ap firstBad (drop-of-length-le s k)
-
--- what the pass over all samples says of the first bad one
-pub none-bad : (s : List ℤ) → allInRange s ≡ true → length s ≤ firstBad s
-unfolding allInRange firstBad
-none-bad [] e = omega arith
-none-bad (x ∷ rest) e =
-    by-test (inRange x)
-    (λ t. let k : allInRange rest ≡ true = rw t at e in rw t (let l = none-bad rest k in omega arith))
-    (λ t. no (sym (rw t at e)))
-
-pub some-bad : (s : List ℤ) → allInRange s ≡ false → firstBad s < length s
-unfolding allInRange firstBad
-some-bad [] e = no e
-some-bad (x ∷ rest) e =
-    by-test (inRange x)
-    (λ t. let k : allInRange rest ≡ false = rw t at e in rw t (let l = some-bad rest k in omega arith))
-    (λ t. rw t (omega arith))
 
 -- ---- the call, case by case
 

@@ -10,9 +10,6 @@ reset = equation (λ κs a l m. refl) (λ M. coder.reset.Met.met)
 pub good-coder : LeavesOne coder.good_coder.ended (λ M. coder.good_coder.clauses) coder.good_coder.Symbol.routine
 good-coder = equation (λ κs a l m. refl) (λ M. coder.good_coder.Met.met)
 
-pub first-bad : LeavesOne coder.first_bad.ended (λ M. coder.first_bad.clauses) coder.first_bad.Symbol.routine
-first-bad = equation (λ κs a l m. refl) (λ M. coder.first_bad.Met.met)
-
 pub code : LeavesOne coder.code.ended (λ M. coder.code.clauses) coder.code.Symbol.routine
 code = call (codedList codedℕ) (λ κs a l m e i. (tt, (tt, (e i, tt)))) (λ M. coder.code.Met.met)
 

@@ -4,15 +4,15 @@ mod pair;
 ghost use mathlib.Core.Path.{_≡_};
 ghost use Prim.Native.Nat.{_*_};
 ghost use lib.ListN.{length};
-ghost use Rattle.laws.specs.Outcome.{Outcome, Does};
+ghost use Rattle.laws.specs.Outcome.{Does};
 ghost use Rattle.g722.specs.Records.{resetCoder, goodCoder};
-ghost use Rattle.g722.specs.Coding.{octetsOf, coderAfter, firstBad, codeCall};
+ghost use Rattle.g722.specs.Coding.{codeCall};
 ghost use Rattle.coder.specs.Step.{runOf};
 use bounds::all_in_range;
 use bounds::both;
+use bounds::first_bad;
 use bounds::good_high;
 use bounds::good_low;
-use bounds::in_range;
 use bounds::misfit;
 use bounds::reset_band;
 use g722::Band;
@@ -53,18 +53,6 @@ pub fn good_coder(c: Coder) -> bool
     let high = c.high;
     let past = c.past;
     both(both(good_low(low), good_high(high)), all_in_range(&past))
-}
-
-// The index of the first sample out of range, or the length where there is none.
-pub fn first_bad(samples: &[i16]) -> usize
-    ensures { λ r. ⌜ r ≡ firstBad (now (samples .entry)) ⌝ }
-{
-    for i in 0..samples.len() {
-        if !in_range(samples[i]) {
-            return i;
-        }
-    }
-    samples.len()
 }
 
 // Codes pair after pair.

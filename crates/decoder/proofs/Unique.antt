@@ -1,6 +1,6 @@
 -- The public functions of `decoder`, each by its own contract: it asks nothing, and leaves one answer and one content of lent memory.
 use mathlib.Core.Path.{refl}
-use base.Stored.{codedList, codedℤ}
+use base.Stored.{coded×, codedList, codedℤ}
 use Rattle.laws.specs.One.{LeavesOne, equation, call}
 use Rattle.decoder.proofs as decoder
 
@@ -12,6 +12,14 @@ good-decoder = equation (λ κs a l m. refl) (λ M. decoder.good_decoder.Met.met
 
 pub decode : LeavesOne decoder.decode.ended (λ M. decoder.decode.clauses) decoder.decode.Symbol.routine
 decode = call (codedList codedℤ) (λ κs a l m e i. (tt, (tt, (tt, (e i, tt))))) (λ M. decoder.decode.Met.met)
+
+pub hear : LeavesOne decoder.hear.ended (λ M. decoder.hear.clauses) decoder.hear.Symbol.routine
+hear =
+    call (coded× (codedList codedℤ) (codedList codedℤ)) (λ κs a l m e i. (tt, (tt, (tt, (e i .0, (e i .1, tt))))))
+    (λ M. decoder.hear.Met.met)
+
+pub join : LeavesOne decoder.join.ended (λ M. decoder.join.clauses) decoder.join.Symbol.routine
+join = call (codedList codedℤ) (λ κs a l m e i. (tt, (tt, (tt, (e i, tt))))) (λ M. decoder.join.Met.met)
 
 pub low-heard : LeavesOne decoder.low_heard.ended (λ M. decoder.low_heard.clauses) decoder.low_heard.Symbol.routine
 low-heard = equation (λ κs a l m. refl) (λ M. decoder.low_heard.Met.met)

@@ -1,4 +1,4 @@
--- What one step of the decoder gives back: a heard signal with the band after it, two samples with the record after them.
+-- What the parts of the decoder give back: a heard signal with the band after it, and runs of either step and of both.
 -- Assumes nothing.
 use mathlib.Core.List.{List}
 use Prim.Native.Nat.{ℕ}
@@ -6,11 +6,11 @@ use lib.IntN.{ℤ}
 use Rattle.laws.specs.Outcome.{Outcome}
 use Rattle.g722.specs.Band.{lowAfter, highAfter}
 use Rattle.g722.specs.Octet.{lowWord, highWord}
-use Rattle.g722.specs.Decoding.{rlOf, rhOf, firstOf, secondOf, decoderStep, samplesOf, decoderAfter}
+use Rattle.g722.specs.Decoding.{rlOf, rhOf, samplesOf, decoderAfter}
+use Rattle.g722.specs.Steps.{rlsOf, rhsOf, heardAfter, joinedOf, joinedAfter}
 use Rattle.g722.specs.declared.Band.{Band}
 use Rattle.g722.specs.declared.Decoder.{Decoder}
 use Rattle.decoder.specs.declared.Signal.{Signal}
-use Rattle.decoder.specs.declared.Heard.{Heard}
 
 unfoldable pub lowHeard : ℕ → Band → ℕ → Signal
 lowHeard mode s o = record { signal = rlOf mode s o; next = lowAfter s (lowWord o) }
@@ -18,9 +18,14 @@ lowHeard mode s o = record { signal = rlOf mode s o; next = lowAfter s (lowWord 
 unfoldable pub highHeard : Band → ℕ → Signal
 highHeard s o = record { signal = rhOf s o; next = highAfter s (highWord o) }
 
-unfoldable pub heardOf : ℕ → Decoder → ℕ → Heard
-heardOf mode d o = record { first = firstOf mode d o; second = secondOf mode d o; next = decoderStep mode d o }
+-- a run of the first step: the record, and the low and the high signals
+abbrev pub hearRun : ℕ → Decoder → List ℕ → Outcome Decoder (List ℤ × List ℤ)
+hearRun mode d octets = record { answer = heardAfter d octets; left = (rlsOf mode (d .low) octets, rhsOf (d .high) octets) }
 
--- a run's record and samples
+-- a run of the second: the record and the samples
+abbrev pub joinRun : Decoder → List ℤ → List ℤ → Outcome Decoder (List ℤ)
+joinRun d low high = record { answer = joinedAfter d low high; left = joinedOf (d .past) low high }
+
+-- a run of both
 abbrev pub runOf : ℕ → Decoder → List ℕ → Outcome Decoder (List ℤ)
 runOf mode d octets = record { answer = decoderAfter mode d octets; left = samplesOf mode d octets }

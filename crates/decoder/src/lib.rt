@@ -1,8 +1,10 @@
-// The decoding call: octets to samples in a told mode, with its refusals 1, 3, 2 (SCOPE 8).
+// Decoding: octets to samples in a told mode, with its refusals 1, 3, 2 (SCOPE 8), and the two steps that it is made of.
 mod octet;
+mod samples;
+mod signals;
 
 ghost use mathlib.Core.Path.{_≡_};
-ghost use Prim.Native.Nat.{_*_};
+ghost use Prim.Native.Nat.{_*_, _≤_};
 ghost use lib.ListN.{length};
 ghost use Rattle.laws.specs.Outcome.{Does};
 ghost use Rattle.g722.specs.Records.{resetDecoder, goodDecoder};
@@ -12,6 +14,7 @@ use bounds::all_in_range;
 use bounds::both;
 use bounds::good_high;
 use bounds::good_low;
+use bounds::lesser;
 use bounds::misfit;
 use bounds::reset_band;
 use g722::Band;
@@ -20,20 +23,16 @@ use g722::Decoder;
 use g722::Pairs;
 pub use octet::high_heard;
 pub use octet::low_heard;
-use octet::step;
 use quant::in_force;
+pub use samples::join;
+use samples::join_all;
+pub use signals::hear;
+use signals::hear_all;
 
 // A band's heard signal, and the band after it.
 pub struct Signal {
     pub signal: i16,
     pub next: Band,
-}
-
-// Two samples, the earlier first, and the decoder after them.
-pub struct Heard {
-    pub first: i16,
-    pub second: i16,
-    pub next: Decoder,
 }
 
 // The record from which both ends start.
@@ -63,32 +62,60 @@ pub fn good_decoder(d: Decoder) -> bool
     both(both(bands, all_in_range(&rl)), all_in_range(&rh))
 }
 
-// Decodes octet after octet.
+// The answer of a call.
+pub(crate) fn answer(number: u8, index: usize, d: Decoder) -> Decoded
+    ensures { λ r. ⌜ r ≡ record { number = number; index = index; next = d } ⌝ }
+{
+    Decoded {
+        number: number,
+        index: index,
+        next: d,
+    }
+}
+
+// The two steps in turn, with lent room for the signals on their way.
+fn in_turn(
+    mode: u8,
+    d: Decoder,
+    octets: &[u8],
+    low: &mut [i16],
+    high: &mut [i16],
+    samples: &mut [i16],
+) -> Decoder
+    requires { ⌜ length (now low) ≡ length (now octets) ⌝ }
+    requires { ⌜ length (now high) ≡ length (now octets) ⌝ }
+    requires { ⌜ length (now samples) ≡ 2 * length (now octets) ⌝ }
+    ensures { λ r. ⌜ Does (runOf mode d (now (octets .entry))) r (now (samples .exit)) ⌝ }
+{
+    let heard = hear_all(mode, d, octets, low, high);
+    join_all(heard, low, high, samples)
+}
+
+// The same over at most 32 octets, with room of its own.
+fn block(mode: u8, d: Decoder, octets: &[u8], samples: &mut [i16]) -> Decoder
+    requires { ⌜ length (now octets) ≤ 32 ⌝ }
+    requires { ⌜ length (now samples) ≡ 2 * length (now octets) ⌝ }
+    ensures { λ r. ⌜ Does (runOf mode d (now (octets .entry))) r (now (samples .exit)) ⌝ }
+{
+    let n = octets.len();
+    let mut low = [0i16; 32];
+    let mut high = [0i16; 32];
+    in_turn(mode, d, octets, &mut low[..n], &mut high[..n], samples)
+}
+
+// Block after block, so that the signals of a long call need no more room than those of a short one.
 fn run(mode: u8, d: Decoder, octets: &[u8], samples: &mut [i16]) -> Decoder
     requires { ⌜ length (now samples) ≡ 2 * length (now octets) ⌝ }
     ensures { λ r. ⌜ Does (runOf mode d (now (octets .entry))) r (now (samples .exit)) ⌝ }
 {
     let mut s = d;
-    for i in 0..octets.len() {
-        let t = step(mode, s, octets[i]);
-        let first = t.first;
-        let second = t.second;
-        samples[2 * i] = first;
-        samples[2 * i + 1] = second;
-        s = t.next;
+    let mut at = 0;
+    while at < octets.len() {
+        let to = at + lesser(32, octets.len() - at);
+        s = block(mode, s, &octets[at..to], &mut samples[2 * at..2 * to]);
+        at = to;
     }
     s
-}
-
-// The answer of a call.
-fn answer(number: u8, d: Decoder) -> Decoded
-    ensures { λ r. ⌜ r ≡ record { number = number; index = 0; next = d } ⌝ }
-{
-    Decoded {
-        number: number,
-        index: 0,
-        next: d,
-    }
 }
 
 // A decoding call: n octets to 2n samples, n at most 8000, in a told mode, 0 being no indication.
@@ -98,13 +125,13 @@ pub fn decode(d: Decoder, told: u8, octets: &[u8], samples: &mut [i16]) -> Decod
     let unfit = misfit(samples.len(), octets.len());
     let good = good_decoder(d);
     if 3 < told {
-        return answer(1, d);
+        return answer(1, 0, d);
     }
     if unfit {
-        return answer(3, d);
+        return answer(3, 0, d);
     }
     if !good {
-        return answer(2, d);
+        return answer(2, 0, d);
     }
-    answer(0, run(in_force(told), d, octets, samples))
+    answer(0, 0, run(in_force(told), d, octets, samples))
 }

@@ -7,12 +7,32 @@ use borrow.Author.Tests.{eqb-true}
 use lib.Dec.{ltb, eqb}
 use Rattle.laws.specs.Order.{no}
 use Rattle.g722.specs.Coding.{misfit}
+use Rattle.g722.specs.Steps.{unpaired}
 
 passed : (a b : Bool) → (a || not b) ≡ false → b ≡ true
 passed true b e = no e
 passed false true e = refl
 passed false false e = no e
 
+not-first : (a b : Bool) → (a || b) ≡ false → a ≡ false
+not-first true b e = no e
+not-first false b e = refl
+
 pub twice : (samples octets : ℕ) → misfit samples octets ≡ false → samples ≡ 2 * octets
 unfolding misfit
 twice s o e = eqb-true s (2 * o) (passed (ltb 8000 o) (eqb s (2 * o)) e)
+
+-- of the first step
+pub paired : (octets low high : ℕ) → unpaired octets low high ≡ false → (low ≡ octets) × (high ≡ octets)
+unfolding unpaired
+paired o l h e = (
+  eqb-true l o (passed (ltb 8000 o) (eqb l o) (not-first (ltb 8000 o || not (eqb l o)) (not (eqb h o)) e)),
+  eqb-true h o (passed (ltb 8000 o || not (eqb l o)) (eqb h o) e),
+)
+
+-- of the second
+pub matched : (low high samples : ℕ) → (misfit samples low || not (eqb high low)) ≡ false → (high ≡ low) × (samples ≡ 2 * low)
+matched l h s e = (
+  eqb-true h l (passed (misfit s l) (eqb h l) e),
+  twice s l (not-first (misfit s l) (not (eqb h l)) e),
+)

@@ -4,6 +4,8 @@ pub mod Reach
 pub mod Sent
 pub mod Upper
 pub mod Told
+pub mod Steps
 pub mod Range
 pub mod Good
 pub mod Fits
+pub mod Signals

@@ -1,9 +1,9 @@
 -- What is limited is in range: the transmit filter's two signals, the heard signals, and every sample that a decoder gives.
 -- Assumes nothing.
-use mathlib.Core.Path.{_≡_, refl}
-use mathlib.Core.Bool.{Bool, true, false}
+use mathlib.Core.Path.{_≡_, refl, sym}
+use mathlib.Core.Bool.{Bool, true, false, _&&_}
 use mathlib.Core.List.{List, [], _∷_, _++_}
-use Prim.Native.Nat.{ℕ, zero, suc, _≤_}
+use Prim.Native.Nat.{ℕ, zero, suc, _≤_, _<_}
 use native.Mathlib.Nat.{le-of-suc-le-suc}
 use native.Mathlib.Omega.{arith}
 use lib.Dec.{T}
@@ -12,11 +12,12 @@ use lib.ListN.{length, drop}
 use lib.Signed.{leZ, _≤ℤ_, leZ-yes, ≤ℤ-refl}
 use Rattle.laws.specs.Both.{both, left-true, right-true}
 use Rattle.laws.specs.Clamp.{clamp-within}
-use Rattle.laws.specs.Order.{by-test}
+use Rattle.laws.specs.Order.{by-test, no}
 use Rattle.g722.specs.Arithmetic.{neg, limit, within, equal}
 use Rattle.g722.specs.Mirror.{lowt, hight, accumc, accumd}
 use Rattle.g722.specs.Records.{inRange, allInRange}
 use Rattle.g722.specs.Coding.{firstBad}
+use Rattle.g722.specs.Steps.{firstBadPair}
 use Rattle.g722.specs.Decoding.{rlOf, rhOf, firstOf, secondOf, decoderStep}
 use Rattle.g722.specs.declared.Band.{Band}
 use Rattle.g722.specs.declared.Decoder.{Decoder}
@@ -60,6 +61,40 @@ all-clean (x ∷ rest) h =
     by-test (inRange x)
     (λ e. let k : suc (length rest) ≤ suc (firstBad rest) = rw e at h in both e (all-clean rest (le-of-suc-le-suc k)))
     (λ e. absurd (let k : suc (length rest) ≤ zero = rw e at h in omega arith))
+
+-- what the pass over all samples says of the first bad one
+pub none-bad : (s : List ℤ) → allInRange s ≡ true → length s ≤ firstBad s
+unfolding allInRange firstBad
+none-bad [] e = omega arith
+none-bad (x ∷ rest) e =
+    by-test (inRange x)
+    (λ t. let k : allInRange rest ≡ true = rw t at e in rw t (let l = none-bad rest k in omega arith))
+    (λ t. no (sym (rw t at e)))
+
+pub some-bad : (s : List ℤ) → allInRange s ≡ false → firstBad s < length s
+unfolding allInRange firstBad
+some-bad [] e = no e
+some-bad (x ∷ rest) e =
+    by-test (inRange x)
+    (λ t. let k : allInRange rest ≡ false = rw t at e in rw t (let l = some-bad rest k in omega arith))
+    (λ t. rw t (omega arith))
+
+-- and of the first bad pair, where both have one length
+pub none-bad-pair : (low high : List ℤ) → length high ≡ length low → (allInRange low && allInRange high) ≡ true
+    → length low ≤ firstBadPair low high
+unfolding firstBadPair
+none-bad-pair low high n e =
+    let l = none-bad low (left-true (allInRange low) (allInRange high) e) in
+    let h = none-bad high (right-true (allInRange low) (allInRange high) e) in
+    omega arith
+
+pub some-bad-pair : (low high : List ℤ) → length high ≡ length low → (allInRange low && allInRange high) ≡ false
+    → firstBadPair low high < length low
+unfolding firstBadPair
+some-bad-pair low high n e =
+    by-test (allInRange low)
+    (λ t. let h = some-bad high (rw t at e) in omega arith)
+    (λ t. let l = some-bad low t in omega arith)
 
 -- ---- what is limited
 

@@ -14,6 +14,7 @@ use Rattle.laws.specs.Outcome.{Outcome}
 use Rattle.g722.specs.Records.{resetCoder, resetDecoder}
 use Rattle.g722.specs.Coding.{codeCall}
 use Rattle.g722.specs.Decoding.{decodeCall}
+use Rattle.g722.specs.Steps.{hearCall, joinCall}
 use Rattle.g722.specs.declared.Coder.{Coder}
 use Rattle.g722.specs.declared.Decoder.{Decoder}
 use Rattle.g722.specs.declared.Moved.{Moved}
@@ -95,6 +96,16 @@ codes c samples octets =
 abbrev pub decodes : Decoder → ℕ → List ℕ → List ℤ → List ℤ
 decodes d told octets samples =
     let done = decodeCall d told octets samples in pos (done .answer .number) ∷ pos (done .answer .index) ∷ done .left
+
+-- the low signals before the high ones
+abbrev pub hears : Decoder → ℕ → List ℕ → List ℤ → List ℤ → List ℤ
+hears d told octets low high =
+    let done = hearCall d told octets low high in
+    pos (done .answer .number) ∷ pos (done .answer .index) ∷ done .left .0 ++ done .left .1
+
+abbrev pub joins : Decoder → List ℤ → List ℤ → List ℤ → List ℤ
+joins d low high samples =
+    let done = joinCall d low high samples in pos (done .answer .number) ∷ pos (done .answer .index) ∷ done .left
 
 abbrev pub moves : Outcome Moved (List ℕ) → List ℤ
 moves done = pos (done .answer .number) ∷ pos (done .answer .index) ∷ these (done .left)

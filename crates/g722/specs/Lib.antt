@@ -9,9 +9,11 @@ pub mod Octet
 pub mod Records
 pub mod Coding
 pub mod Decoding
+pub mod Steps
 pub mod Cue
 pub mod Printed
 pub mod Checks
+pub mod InSteps
 pub mod Steady
 pub mod Opened
 pub mod Case

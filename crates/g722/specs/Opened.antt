@@ -17,6 +17,8 @@ use Rattle.g722.specs.Coding.{window, ilOf, ihOf, octetOf, coderStep, oc
 use Rattle.g722.specs.Coding.{firstBad, misfit, notCoded, coded, codeCall}
 use Rattle.g722.specs.Decoding.{rlOf, rhOf, rlRow, rhRow, firstOf, secondOf, decoderStep, samplesOf, decoderAfter}
 use Rattle.g722.specs.Decoding.{notDecoded, decoded, decodeCall}
+use Rattle.g722.specs.Steps.{signalsOf, bandAfter, rlsOf, rhsOf, heardAfter, unpaired, notHeard, heard, hearCall}
+use Rattle.g722.specs.Steps.{pairsNext, joinedOf, pairsAfter, joinedAfter, firstBadPair, notJoined, joined, joinCall}
 use Rattle.g722.specs.Cue.{bits, bitsOf, spelt, gathered, carrying, unfilled, dataNumber, dataCall, putCall, takeCall}
 
 unfoldable pub arithmetic : Unit {0}
@@ -67,11 +69,20 @@ unfoldable pub decoding : Unit {0}
 unfolding hearing misfit notDecoded decoded decodeCall
 decoding = tt
 
+-- its two steps
+unfoldable pub listening : Unit {0}
+unfolding hearing signalsOf bandAfter rlsOf rhsOf heardAfter unpaired notHeard heard hearCall
+listening = tt
+
+unfoldable pub joining : Unit {0}
+unfolding filters bounds firstBad misfit pairsNext joinedOf pairsAfter joinedAfter firstBadPair notJoined joined joinCall
+joining = tt
+
 unfoldable pub cueing : Unit {0}
 unfolding bits bitsOf spelt gathered carrying unfilled dataNumber dataCall putCall takeCall
 cueing = tt
 
 -- all of it
 unfoldable pub meaning : Unit {0}
-unfolding coding decoding cueing
+unfolding coding decoding listening joining cueing
 meaning = tt

@@ -4,9 +4,9 @@
 use mathlib.Core.Path.{refl}
 use mathlib.Core.Bool.{cond}
 use mathlib.Core.List.{List, [], _∷_, _++_, map}
-use Prim.Native.Nat.{ℕ}
+use Prim.Native.Nat.{ℕ, _*_}
 use lib.IntN.{ℤ, pos, negℤ}
-use lib.ListN.{drop, take, replicate}
+use lib.ListN.{length, drop, take, replicate}
 use lib.Signed.{mag}
 use Rattle.g722.specs.Arithmetic.{neg, mul, limit, negative, sameSign}
 use Rattle.g722.specs.Tables.{h, q6}
@@ -18,9 +18,10 @@ use Rattle.g722.specs.Octet.{highWord}
 use Rattle.g722.specs.Records.{resetBand, resetCoder, resetDecoder}
 use Rattle.g722.specs.Coding.{coderStep, misfit, codeCall}
 use Rattle.g722.specs.Decoding.{rlOf, rhOf, decoderStep, decodeCall}
+use Rattle.g722.specs.Steps.{hearCall, joinCall}
 use Rattle.g722.specs.Cue.{unfilled, putCall, takeCall}
 use Rattle.g722.specs.Opened.{meaning}
-use Rattle.g722.specs.Case.{Case, _gives_, Hold, all-hold, these, truths, sent, heard, codes, decodes, moves}
+use Rattle.g722.specs.Case.{Case, _gives_, Hold, all-hold, these, truths, sent, heard, codes, decodes, hears, joins, moves}
 use Rattle.g722.specs.declared.Poles.{Poles}
 use Rattle.g722.specs.declared.Band.{Band}
 use Rattle.g722.specs.declared.Coder.{Coder}
@@ -62,6 +63,13 @@ scaled log scale = band (still (pos 0) (pos 0)) log scale
 abbrev swung : Band
 swung = band (poles (pos 27648) (neg 12288) (pos 32767) (neg 32768) (pos 0) (pos 0)) (pos 0) (pos 32)
 
+-- and so at either end, with a scale factor
+abbrev up : ℤ → Band
+up scale = band (poles (pos 27648) (neg 12288) (pos 32767) (neg 32768) (pos 0) (pos 0)) (pos 0) scale
+
+abbrev down : ℤ → Band
+down scale = band (poles (pos 27648) (neg 12288) (neg 32768) (pos 32767) (pos 0) (pos 0)) (pos 0) scale
+
 -- with both parts of the predictor at work
 abbrev busy : Band
 busy =
@@ -90,6 +98,13 @@ coder l r oldest = record { low = l; high = r; past = oldest ∷ replicate 21 (p
 abbrev decoder : Band → Band → ℤ → ℤ → Decoder
 decoder l r rl rh =
     record { low = l; high = r; past = record { rl = rl ∷ replicate 10 (pos 0); rh = replicate 10 (pos 0) ++ (rh ∷ []) } }
+
+-- broken by its second pole coefficient; and good, with bands at full swing and past pairs
+abbrev broken : Decoder
+broken = decoder (lowWith (pos 0) (pos 12289)) high (pos 0) (pos 0)
+
+abbrev full : Decoder
+full = decoder (up (pos 32)) (down (pos 8)) (pos 3) (pos 4)
 
 -- the numbers that empty calls give to records, as a host might hand them in
 abbrev coderNumbers : List Coder → List ℤ
@@ -156,6 +171,39 @@ afterTwo = coderStep (coderStep resetCoder (pos 900) (neg 700)) (neg 500) (pos 3
 
 abbrev heardTwo : Decoder
 heardTwo = decoderStep 1 (decoderStep 1 resetDecoder 0x04) 0x20
+
+-- their signals, as the second codec has them: the low ones in each mode, and the high ones, which no mode changes
+abbrev low1 : List ℤ
+low1 =
+    neg 25 ∷ pos 66 ∷ neg 188 ∷ pos 519 ∷ neg 1432 ∷ pos 2408 ∷ pos 4483 ∷ neg 1317 ∷ pos 12124 ∷ neg 12417 ∷ neg 5267 ∷ pos 1232 ∷ []
+
+abbrev low2 : List ℤ
+low2 =
+    neg 23 ∷ pos 62 ∷ neg 177 ∷ pos 489 ∷ neg 1351 ∷ pos 2277 ∷ pos 4801 ∷ neg 1405 ∷ pos 11426 ∷ neg 13141 ∷ neg 4835 ∷ pos 1320 ∷ []
+
+abbrev low3 : List ℤ
+low3 =
+    neg 20 ∷ pos 54 ∷ neg 156 ∷ pos 430 ∷ neg 1189 ∷ pos 2091 ∷ pos 4165 ∷ neg 1593 ∷ pos 10040 ∷ neg 11693 ∷ neg 4223 ∷ pos 1508 ∷ []
+
+abbrev highs : List ℤ
+highs = neg 2 ∷ neg 2 ∷ pos 2 ∷ pos 1 ∷ neg 8 ∷ neg 3 ∷ neg 8 ∷ pos 2 ∷ neg 7 ∷ neg 13 ∷ pos 1 ∷ neg 16 ∷ []
+
+-- the twelve heard from reset, what hearing two leaves, and what joining leaves
+abbrev hearsTwelve : ℕ → List ℤ
+hearsTwelve told = hears resetDecoder told twelve zeros zeros
+
+abbrev twoHeard : Decoder
+twoHeard = hearCall full 1 (take 2 twelve) (pos 0 ∷ pos 0 ∷ []) (pos 0 ∷ pos 0 ∷ []) .answer .next
+
+abbrev oneJoined : Decoder
+oneJoined = joinCall full (pos 5 ∷ []) (pos 6 ∷ []) (pos 0 ∷ pos 0 ∷ []) .answer .next
+
+-- the second step over what the first gives
+abbrev inTwoSteps : Decoder → ℕ → List ℕ → List ℤ
+inTwoSteps d told octets =
+    let n = length octets in
+    let one = hearCall d told octets (replicate n (pos 0)) (replicate n (pos 0)) in
+    joins (one .answer .next) (one .left .0) (one .left .1) (replicate (2 * n) (pos 0))
 
 -- ---- the cases
 
@@ -362,6 +410,58 @@ refusals =
 pub refusals-hold : Hold refusals
 unfolding refusals meaning
 refusals-hold = all-hold refusals refl
+
+-- hearing refuses 1, 3, 2 and leaves what was lent; its signals, the low before the high, limited at both ends; it moves both bands, and
+-- leaves the past pairs
+pub hearing : List Case
+hearing =
+    (hears broken 4 [] (pos 5 ∷ []) (pos 6 ∷ []) gives these (1 ∷ 0 ∷ 5 ∷ 6 ∷ []))
+    ∷ (hears broken 3 [] (pos 5 ∷ []) [] gives these (3 ∷ 0 ∷ 5 ∷ []))
+    ∷ (hears broken 3 [] [] (pos 6 ∷ []) gives these (3 ∷ 0 ∷ 6 ∷ []))
+    ∷ (hears broken 3 (0xFA ∷ []) (pos 5 ∷ []) (pos 6 ∷ []) gives these (2 ∷ 0 ∷ 5 ∷ 6 ∷ []))
+    ∷ (these (hearCall resetDecoder 1 (replicate 8001 0) (replicate 8001 (pos 0)) (replicate 8001 (pos 0)) .answer .number ∷ [])
+    gives these (3 ∷ []))
+    ∷ (hearsTwelve 0 gives (pos 0 ∷ pos 0 ∷ low1 ++ highs))
+    ∷ (hearsTwelve 1 gives (pos 0 ∷ pos 0 ∷ low1 ++ highs))
+    ∷ (hearsTwelve 2 gives (pos 0 ∷ pos 0 ∷ low2 ++ highs))
+    ∷ (hearsTwelve 3 gives (pos 0 ∷ pos 0 ∷ low3 ++ highs))
+    ∷ (hears full 1 (0x20 ∷ []) (pos 5 ∷ []) (pos 6 ∷ []) gives (pos 0 ∷ pos 0 ∷ pos 16383 ∷ neg 16384 ∷ []))
+    ∷ (hears (decoder (down (pos 32)) (up (pos 8)) (pos 0) (pos 0)) 1 (0x84 ∷ []) (pos 5 ∷ []) (pos 6 ∷ [])
+    gives (pos 0 ∷ pos 0 ∷ neg 16384 ∷ pos 16383 ∷ []))
+    ∷ (flat (twoHeard .low) ++ flat (twoHeard .high)
+    gives flat (decoderStep 1 (decoderStep 1 full 0x04) 0x20 .low) ++ flat (decoderStep 1 (decoderStep 1 full 0x04) 0x20 .high))
+    ∷ (twoHeard .past .rl ++ twoHeard .past .rh gives full .past .rl ++ full .past .rh)
+    ∷ (flat (hearCall full 4 [] [] [] .answer .next .low) gives flat (full .low))
+    ∷ []
+
+pub hearing-hold : Hold hearing
+unfolding hearing meaning
+hearing-hold = all-hold hearing refl
+
+-- joining refuses 3, 2, 4 with the first bad pair, and leaves what was lent; its samples; it moves the past pairs, and leaves both bands;
+-- what was heard and is joined is what is decoded
+pub joining : List Case
+joining =
+    (joins broken (pos 16384 ∷ []) (pos 0 ∷ []) (pos 5 ∷ []) gives these (3 ∷ 0 ∷ 5 ∷ []))
+    ∷ (joins broken (pos 16384 ∷ []) [] (pos 5 ∷ pos 6 ∷ []) gives these (3 ∷ 0 ∷ 5 ∷ 6 ∷ []))
+    ∷ (joins broken (pos 16384 ∷ []) (pos 0 ∷ []) (pos 5 ∷ pos 6 ∷ []) gives these (2 ∷ 0 ∷ 5 ∷ 6 ∷ []))
+    ∷ (joins full (pos 0 ∷ pos 0 ∷ []) (pos 0 ∷ neg 16385 ∷ []) (replicate 4 (pos 5)) gives these (4 ∷ 1 ∷ 5 ∷ 5 ∷ 5 ∷ 5 ∷ []))
+    ∷ (these (joinCall resetDecoder (replicate 8001 (pos 0)) (replicate 8001 (pos 0)) (replicate 16002 (pos 0)) .answer .number ∷ [])
+    gives these (3 ∷ []))
+    ∷ (joins resetDecoder [] [] [] gives these (0 ∷ 0 ∷ []))
+    ∷ (joins resetDecoder (pos 16383 ∷ neg 16384 ∷ pos 5000 ∷ neg 7 ∷ []) (neg 16384 ∷ pos 16383 ∷ pos 3000 ∷ pos 9 ∷ [])
+    (replicate 8 (pos 5))
+    gives (pos 0 ∷ pos 0 ∷ pos 23 ∷ pos 0 ∷ neg 112 ∷ neg 1 ∷ pos 185 ∷ neg 22 ∷ pos 154 ∷ pos 103 ∷ []))
+    ∷ (flat (oneJoined .low) ++ flat (oneJoined .high) gives flat (full .low) ++ flat (full .high))
+    ∷ (oneJoined .past .rl ++ oneJoined .past .rh gives replicate 10 (pos 0) ++ (pos 5 ∷ replicate 9 (pos 0)) ++ (pos 4 ∷ pos 6 ∷ []))
+    ∷ (flat (joinCall full [] [] (pos 5 ∷ []) .answer .next .low) gives flat (full .low))
+    ∷ (inTwoSteps resetDecoder 3 (0xFA ∷ 0x04 ∷ []) gives decodes resetDecoder 3 (0xFA ∷ 0x04 ∷ []) (replicate 4 (pos 0)))
+    ∷ (inTwoSteps full 2 (0x21 ∷ []) gives decodes full 2 (0x21 ∷ []) (replicate 2 (pos 0)))
+    ∷ []
+
+pub joining-hold : Hold joining
+unfolding joining meaning
+joining-hold = all-hold joining refl
 
 -- data calls 1, 5, 3; data must fill the octets; and taking out what sums 9 and 10 put in
 pub cueing : List Case

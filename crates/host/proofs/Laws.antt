@@ -1,16 +1,16 @@
 -- Laws of a host's calls, on plain values.
 -- Assumes nothing.
-use mathlib.Core.Path.{_≡_, refl, sym, ap, ap₂, _∙_}
-use mathlib.Core.Bool.{Bool, _||_, not}
+use mathlib.Core.Path.{_≡_, refl, sym, ap, _∙_}
+use mathlib.Core.Bool.{Bool, true, _||_, not}
 use mathlib.Core.List.{List}
 use Prim.Native.Nat.{ℕ, _*_}
 use native.Mathlib.Omega.{arith}
 use borrow.Author.Tests.{eq-eqb, ne-eqb}
 use lib.Dec.{ltb, eqb}
 use lib.ListN.{length}
-use Rattle.laws.specs.Order.{by-test}
+use Rattle.laws.specs.Order.{no, by-test}
 use Rattle.laws.specs.Outcome.{Outcome, Does}
-use Rattle.g722.specs.Records.{goodCoder, goodDecoder}
+use Rattle.g722.specs.Records.{goodDecoder}
 use Rattle.g722.specs.Coding.{misfit, notCoded, codeCall}
 use Rattle.g722.specs.Decoding.{decoded}
 use Rattle.g722.specs.declared.Decoder.{Decoder}
@@ -21,17 +21,17 @@ use Rattle.state.specs.Reset.{unheld-coder-broken, unheld-decoder-broken, held-
 use Rattle.host.specs.Answer.{packed}
 use Rattle.host.specs.Calls.{stateAfter}
 
--- ---- a call on a record, between reading and writing its state: one law for both records
+-- ---- a call on a record, between reading and writing its state: one law for both records, whatever else is lent
 
-module _ {A : Type 0} (number index : A → ℕ) (bytes : A → List ℕ) (state : List ℕ) (x : Outcome A (List ℕ)) where
-  abbrev hosted : Outcome ℕ (List ℕ × List ℕ)
+module _ {A L : Type 0} (number index : A → ℕ) (bytes : A → List ℕ) (state : List ℕ) (x : Outcome A L) where
+  abbrev hosted : Outcome ℕ (List ℕ × L)
   hosted =
       record {
         answer = packed (number (x .answer)) (index (x .answer));
         left = (stateAfter (number (x .answer)) (bytes (x .answer)) state, x .left);
       }
 
-  module _ {r : A} {left : List ℕ} {word : ℕ} (did : Does x r left) (said : word ≡ packed (number r) (index r)) where
+  module _ {r : A} {left : L} {word : ℕ} (did : Does x r left) (said : word ≡ packed (number r) (index r)) where
     spoken : word ≡ packed (number (x .answer)) (index (x .answer))
     spoken = said ∙ ap (λ (a : A). packed (number a) (index a)) (did .answer)
 
@@ -66,16 +66,18 @@ coder-held s b o z =
     (λ h. let k : _≡_ {A = ℕ} 2 0 = rw (f, h, g) at z in omega arith))
     (λ f. let k : _≡_ {A = ℕ} 3 0 = rw f at z in omega arith)))
 
+pub good-held : (s : List ℕ) → goodDecoder (decoderIn s) ≡ true → length s ≡ 125
+good-held s g = by-test (holds 2 s) (held-length 2 s) (λ e. no (sym g ∙ unheld-decoder-broken s e))
+
 pub decoder-held : (s : List ℕ) (told : ℕ) (o b : List ℕ) → decodeChunk (decoderIn s) told o b .answer .number ≡ 0 → length s ≡ 125
 unfolding decodeChunk notStored
 decoder-held s told o b z =
-    by-test (holds 2 s) (held-length 2 s) (λ e. absurd (
-    let g = unheld-decoder-broken s e in
+    good-held s (by-test (goodDecoder (decoderIn s)) (λ g. g) (λ g. absurd (
     by-test (ltb 3 told)
     (λ f. let k : _≡_ {A = ℕ} 1 0 = rw f at z in omega arith)
     (λ f. by-test (ltb 8000 (length o) || not (eqb (length b) (4 * length o)))
     (λ h. let k : _≡_ {A = ℕ} 3 0 = rw (f, h) at z in omega arith)
-    (λ h. let k : _≡_ {A = ℕ} 2 0 = rw (f, h, g) at z in omega arith))))
+    (λ h. let k : _≡_ {A = ℕ} 2 0 = rw (f, h, g) at z in omega arith)))))
 
 -- a decoding call has no index
 pub index-none : (d : Decoder) (told : ℕ) (o b : List ℕ) → decodeChunk d told o b .answer .index ≡ 0

@@ -28,7 +28,7 @@ afterCoding state x =
 unfoldable pub codeBytes : List ℕ → List ℕ → List ℕ → Outcome ℕ (List ℕ × List ℕ)
 codeBytes state samples octets = afterCoding state (encodeChunk (coderIn state) samples octets)
 
-unfoldable pub afterDecoding : List ℕ → Outcome Decoded (List ℕ) → Outcome ℕ (List ℕ × List ℕ)
+unfoldable pub afterDecoding : {L : Type 0} → List ℕ → Outcome Decoded L → Outcome ℕ (List ℕ × L)
 afterDecoding state x =
     record {
       answer = packed (x .answer .number) (x .answer .index);

@@ -1,4 +1,5 @@
-// The four calls for a host that is not Rattle, over numbers and byte slices. The host keeps the state as bytes.
+// The calls for a host that is not Rattle, over numbers and byte slices, but for the two steps of decoding (`host_steps`). The host keeps
+// the state as bytes.
 ghost use mathlib.Core.Path.{_≡_};
 ghost use Prim.Native.Nat.{_<_, _^_};
 ghost use Rattle.laws.specs.Outcome.{Does};

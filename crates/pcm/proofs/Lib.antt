@@ -1,4 +1,5 @@
 -- What the proofs here share, and the table of answers.
 pub mod Turns
 pub mod Calls
+pub mod Steps
 pub mod Unique

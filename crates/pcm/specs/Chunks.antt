@@ -48,7 +48,7 @@ unfolding firstBad
 bad-within [] = zero-le
 bad-within (x ∷ rest) = by-test (inRange x) (λ e. rw e (suc-le-suc (bad-within rest))) (λ e. rw e zero-le)
 
-samples-within : (b : List ℕ) → 2 * length (pcmSamples b) ≤ length b
+pub samples-within : (b : List ℕ) → 2 * length (pcmSamples b) ≤ length b
 unfolding pcmSamples
 samples-within [] = zero-le
 samples-within (high ∷ []) = zero-le

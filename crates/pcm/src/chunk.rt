@@ -106,7 +106,7 @@ fn not_coded(refusal: u8, c: Coder) -> Coded
 }
 
 // The answer of a refused decoding call.
-fn not_decoded(number: u8, d: Decoder) -> Decoded
+pub(crate) fn not_decoded(number: u8, d: Decoder) -> Decoded
     ensures { λ r. ⌜ r ≡ record { number = number; index = 0; next = d } ⌝ }
 {
     Decoded {

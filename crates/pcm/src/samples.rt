@@ -1,8 +1,8 @@
 // Samples as bytes and back: two bytes a sample, high byte first, two's complement.
 ghost use mathlib.Core.Path.{_≡_};
-ghost use Prim.Native.Nat.{min};
 ghost use Rattle.laws.specs.Outcome.{Does};
 ghost use Rattle.pcm.specs.Bytes.{sampleOf, wordOf, highOf, lowOf, loadCall, storeCall};
+use bounds::lesser;
 
 // The sample of a high and a low byte.
 pub fn sample(high: u8, low: u8) -> i16
@@ -38,16 +38,6 @@ pub fn low(x: i16) -> u8
     ensures { λ r. ⌜ r ≡ lowOf x ⌝ }
 {
     (word(x) % 256) as u8
-}
-
-// The lesser of a and b.
-fn lesser(a: usize, b: usize) -> usize
-    ensures { λ r. ⌜ r ≡ min a b ⌝ }
-{
-    if a < b {
-        return a;
-    }
-    b
 }
 
 // Reads as many samples as both have room for, and answers how many.

@@ -17,7 +17,7 @@ pub data Each {A : Type 0} (R : A → A → Type 0) : List A → List A → Type
 module _ (C : Calls) (Like : C .Input → C .Input → Type 0)
     (same : (s : C .State) (k j : C .Input) → Like k j → (C .call s k .answer ≡ C .call s j .answer)
     × (C .number (C .call s k .answer) ≡ 0 → C .call s k .left ≡ C .call s j .left)) where
-  open Calls C using (State, Input, Answer, Item, call, number, next)
+  open Calls C using (State, Input, Answer, call, number, next)
 
   pub answers-alike : {ks js : List Input} (s : State) → Each Like ks js → answers C s ks ≡ answers C s js
   unfolding answers
@@ -32,16 +32,21 @@ module _ (C : Calls) (Like : C .Input → C .Input → Type 0)
   state-alike s (more {x = k} {y = j} {xs = ks} a rest) =
       ap (λ (x : Answer). through C (next x) ks) (same s k j a .0) ∙ state-alike _ rest
 
-  -- what an accepted call counts for
-  counted : (s : State) (k j : Input) → Like k j
-      → _≡_ {A = List Item} (cond (eqb (number (call s k .answer)) 0) (call s k .left) [])
-      (cond (eqb (number (call s j .answer)) 0) (call s j .left) [])
-  counted s k j a =
-      let e = same s k j a in
-      rw (← e .0) (by-test (eqb (number (call s k .answer)) 0) (λ t. rw t (e .1 (eqb-true _ _ t))) (λ t. rw t))
+  -- whatever is the same of like calls that are accepted
+  module _ {Z : Type 0} (f : State → Input → List Z)
+      (alike : (s : State) (k j : Input) → Like k j → number (call s k .answer) ≡ 0 → f s k ≡ f s j) where
+    -- what an accepted call counts for
+    counted : (s : State) (k j : Input) → Like k j
+        → _≡_ {A = List Z} (cond (eqb (number (call s k .answer)) 0) (f s k) []) (cond (eqb (number (call s j .answer)) 0) (f s j) [])
+    counted s k j a =
+        rw (← same s k j a .0)
+        (by-test (eqb (number (call s k .answer)) 0) (λ t. rw t (alike s k j a (eqb-true _ _ t))) (λ t. rw t))
+
+    pub of-alike : {ks js : List Input} (s : State) → Each Like ks js → ofAccepted C f s ks ≡ ofAccepted C f s js
+    unfolding ofAccepted
+    of-alike s none = refl
+    of-alike s (more {x = k} {y = j} {xs = ks} a rest) =
+        λ i. counted s k j a i ++ (ap (λ (x : Answer). ofAccepted C f (next x) ks) (same s k j a .0) ∙ of-alike _ rest) i
 
   pub lefts-alike : {ks js : List Input} (s : State) → Each Like ks js → lefts C s ks ≡ lefts C s js
-  unfolding ofAccepted
-  lefts-alike s none = refl
-  lefts-alike s (more {x = k} {y = j} {xs = ks} a rest) =
-      λ i. counted s k j a i ++ (ap (λ (x : Answer). lefts C (next x) ks) (same s k j a .0) ∙ lefts-alike _ rest) i
+  lefts-alike = of-alike (λ s k. call s k .left) (λ s k j a. same s k j a .1)

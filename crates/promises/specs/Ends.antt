@@ -2,7 +2,7 @@
 -- From reset, with every octet decoded once and in order, its upper six bits (H1 H2 L1..L4) as sent: after each octet both bands
 -- are equal at both ends, whatever stands in the last two bits and whichever modes were told, whatever calls were refused, also
 -- inside a call and while the decoder is behind. Nothing is said of lost or repeated octets: after those the ends may part,
--- until both are reset.
+-- until both are reset. The first step of decoding alone moves the bands, so it is proved of that, and is so of decoding.
 -- Assumes nothing.
 use mathlib.Core.Path.{_≡_, refl, sym, ap, _∙_}
 use mathlib.Core.List.{List, [], _∷_, map, head-eq-of-cons-eq, tail-eq-of-cons-eq, nil≢cons, cons≢nil}
@@ -15,19 +15,16 @@ use Rattle.g722.specs.Band.{lowAfter, highAfter}
 use Rattle.g722.specs.Octet.{highWord, lowWord}
 use Rattle.g722.specs.Records.{resetCoder, resetDecoder}
 use Rattle.g722.specs.Coding.{ilOf, ihOf, octetOf, octetsOf, coderStep, coderAfter}
-use Rattle.g722.specs.Decoding.{decoderStep}
+use Rattle.g722.specs.Steps.{bandAfter, heardAfter, joinedAfter}
 use Rattle.facts.specs.Sent.{quantl-small, low-of-octet, high-of-octet}
 use Rattle.facts.specs.Upper.{upperSix, low-by-four, upper-low, upper-high}
 use Rattle.g722.specs.declared.Band.{Band}
 use Rattle.g722.specs.declared.Coder.{Coder}
 use Rattle.g722.specs.declared.Decoder.{Decoder}
 use Rattle.facts.specs.Told.{Told, decoderRun}
+use Rattle.promises.specs.StepRuns.{received, decoder-run-in-steps}
 use Rattle.promises.specs.Sequences.{CodeInput, coderThrough, octetsThrough, samplesTaken, coder-as-one-run, octets-as-one-run}
 use Rattle.promises.specs.Sequences.{DecodeInput, decoderThrough, octetsTaken, decoder-as-one-run}
-
--- the octets of a run
-abbrev pub received : List Told → List ℕ
-received ts = map (λ (t : Told). t .octet) ts
 
 -- both bands: predictors, log factors and scale factors
 pub record SameBands (c : Coder) (d : Decoder) : Type 0 where
@@ -45,51 +42,80 @@ unfolding octetOf ilOf
 high-sent c x y = high-of-octet (ihOf c x y) (ilOf c x y) (quantl-small _ _)
 
 -- one octet
-step : (c : Coder) (d : Decoder) (x y : ℤ) (t : Told) → SameBands c d → upperSix (octetOf c x y) ≡ upperSix (t .octet)
-    → SameBands (coderStep c x y) (decoderStep (t .mode) d (t .octet))
-unfolding coderStep decoderStep
-step c d x y t s e = record {
+step : (c : Coder) (d : Decoder) (x y : ℤ) (o : ℕ) → SameBands c d → upperSix (octetOf c x y) ≡ upperSix o
+    → SameBands (coderStep c x y) (heardAfter d (o ∷ []))
+unfolding coderStep heardAfter bandAfter
+step c d x y o s e = record {
   low =
-      low-by-four (c .low) (ilOf c x y) (lowWord (t .octet))
-      (ap (λ (w : ℕ). w / 4) (sym (low-sent c x y)) ∙ upper-low (octetOf c x y) (t .octet) e)
-      ∙ ap (λ (b : Band). lowAfter b (lowWord (t .octet))) (s .low);
+      low-by-four (c .low) (ilOf c x y) (lowWord o)
+      (ap (λ (w : ℕ). w / 4) (sym (low-sent c x y)) ∙ upper-low (octetOf c x y) o e)
+      ∙ ap (λ (b : Band). lowAfter b (lowWord o)) (s .low);
   high =
-      ap (highAfter (c .high)) (sym (high-sent c x y) ∙ upper-high (octetOf c x y) (t .octet) e)
-      ∙ ap (λ (b : Band). highAfter b (highWord (t .octet))) (s .high);
+      ap (highAfter (c .high)) (sym (high-sent c x y) ∙ upper-high (octetOf c x y) o e)
+      ∙ ap (λ (b : Band). highAfter b (highWord o)) (s .high);
 }
+
+-- ---- a run at each end, from equal bands
+
+-- THE THEOREM, of the first step: after n octets, where the first n came as they were sent as far as their upper six bits go
+pub same-heard : (n : ℕ) (c : Coder) (d : Decoder) (s : List ℤ) (os : List ℕ) → SameBands c d
+    → take n (map upperSix (octetsOf c s)) ≡ take n (map upperSix os)
+    → SameBands (coderAfter c (take (2 * n) s)) (heardAfter d (take n os))
+unfolding octetsOf coderAfter heardAfter bandAfter
+same-heard zero c d s os b e = b
+same-heard (suc n) c d [] [] b e = rw (take-nil (2 * suc n)) b
+same-heard (suc n) c d [] (o ∷ os) b e = absurd (nil≢cons e)
+same-heard (suc n) c d (x ∷ []) [] b e = let k : 2 * suc n ≡ suc (suc (2 * n)) = omega arith in rw k b
+same-heard (suc n) c d (x ∷ []) (o ∷ os) b e = absurd (nil≢cons e)
+same-heard (suc n) c d (x ∷ y ∷ s) [] b e = absurd (cons≢nil e)
+same-heard (suc n) c d (x ∷ y ∷ s) (o ∷ os) b e =
+    let k : 2 * suc n ≡ suc (suc (2 * n)) = omega arith in
+    rw k (same-heard n (coderStep c x y) (heardAfter d (o ∷ [])) s os (step c d x y o b (head-eq-of-cons-eq e)) (tail-eq-of-cons-eq e))
+
+-- after all that came, as long as it came as it was sent
+pub heard-behind : (c : Coder) (d : Decoder) (s : List ℤ) (os : List ℕ) → SameBands c d
+    → take (length os) (map upperSix (octetsOf c s)) ≡ take (length os) (map upperSix os)
+    → SameBands (coderAfter c (take (2 * length os) s)) (heardAfter d os)
+heard-behind c d s os b e = rw (take-length os) at (same-heard (length os) c d s os b e)
+
+-- and after all that was sent, once it has come
+pub heard-at-end : (c : Coder) (d : Decoder) (s : List ℤ) (os : List ℕ) → SameBands c d
+    → map upperSix (octetsOf c s) ≡ map upperSix os → SameBands (coderAfter c s) (heardAfter d os)
+heard-at-end c d s os b e =
+    let n = length s + length os in
+    rw (take-all (2 * n) s (omega arith), take-all n os (omega arith)) at (same-heard n c d s os b (ap (take n) e))
+
+-- ---- decoding in whatever modes
+
+-- a run of the decoder has the bands of the first step's
+same-run : (c : Coder) (d : Decoder) (ts : List Told) → SameBands c (heardAfter d (received ts)) → SameBands c (decoderRun d ts)
+unfolding joinedAfter
+same-run c d ts b =
+    let e = decoder-run-in-steps d ts in
+    record { low = b .low ∙ ap (λ (r : Decoder). r .low) (sym e); high = b .high ∙ ap (λ (r : Decoder). r .high) (sym e) }
+
+pub take-map : {A B : Type 0} (f : A → B) (n : ℕ) (l : List A) → take n (map f l) ≡ map f (take n l)
+take-map f zero l = refl
+take-map f (suc n) [] = refl
+take-map f (suc n) (a ∷ l) = ap (_∷_ (f a)) (take-map f n l)
 
 -- the first n octets came as they were sent, as far as their upper six bits go
 abbrev pub AsSent : ℕ → List ℕ → List Told → Type 0
 AsSent n sent ts = take n (map upperSix sent) ≡ take n (map upperSix (received ts))
 
--- ---- a run at each end, from equal bands
-
--- after n octets, where the first n came as they were sent
+-- so it is the same, of n octets, of all that came and of all that was sent
 pub same-after : (n : ℕ) (c : Coder) (d : Decoder) (s : List ℤ) (ts : List Told) → SameBands c d → AsSent n (octetsOf c s) ts
     → SameBands (coderAfter c (take (2 * n) s)) (decoderRun d (take n ts))
-unfolding octetsOf coderAfter decoderRun
-same-after zero c d s ts b e = b
-same-after (suc n) c d [] [] b e = rw (take-nil (2 * suc n)) b
-same-after (suc n) c d [] (t ∷ ts) b e = absurd (nil≢cons e)
-same-after (suc n) c d (x ∷ []) [] b e = let k : 2 * suc n ≡ suc (suc (2 * n)) = omega arith in rw k b
-same-after (suc n) c d (x ∷ []) (t ∷ ts) b e = absurd (nil≢cons e)
-same-after (suc n) c d (x ∷ y ∷ s) [] b e = absurd (cons≢nil e)
-same-after (suc n) c d (x ∷ y ∷ s) (t ∷ ts) b e =
-    let k : 2 * suc n ≡ suc (suc (2 * n)) = omega arith in
-    rw k (same-after n (coderStep c x y) (decoderStep (t .mode) d (t .octet)) s ts
-    (step c d x y t b (head-eq-of-cons-eq e)) (tail-eq-of-cons-eq e))
+same-after n c d s ts b e =
+    same-run _ d (take n ts) (rw (take-map (λ (t : Told). t .octet) n ts) at (same-heard n c d s (received ts) b e))
 
--- after all that came, as long as it came as it was sent
 pub same-behind : (c : Coder) (d : Decoder) (s : List ℤ) (ts : List Told) → SameBands c d → AsSent (length ts) (octetsOf c s) ts
     → SameBands (coderAfter c (take (2 * length ts) s)) (decoderRun d ts)
 same-behind c d s ts b e = rw (take-length ts) at (same-after (length ts) c d s ts b e)
 
--- and after all that was sent, once it has come
 pub same-at-end : (c : Coder) (d : Decoder) (s : List ℤ) (ts : List Told) → SameBands c d
     → map upperSix (octetsOf c s) ≡ map upperSix (received ts) → SameBands (coderAfter c s) (decoderRun d ts)
-same-at-end c d s ts b e =
-    let n = length s + length ts in
-    rw (take-all (2 * n) s (omega arith), take-all n ts (omega arith)) at (same-after n c d s ts b (ap (take n) e))
+same-at-end c d s ts b e = same-run _ d ts (heard-at-end c d s (received ts) b e)
 
 -- ---- calls from reset
 

@@ -22,7 +22,7 @@ use Rattle.promises.specs.Refused.{Beside, encode-chunk-beside, decode-c
 use Rattle.promises.specs.Packed.{Parts, code-parts, decode-parts, put-parts, take-parts}
 
 -- what is so beside the number and the index is so beside the word that holds them
-in-word : {word number index : ℕ} {X Y : Type 0} {back came : X} {back′ came′ : Y} → Parts word number index
+pub in-word : {word number index : ℕ} {X Y : Type 0} {back came : X} {back′ came′ : Y} → Parts word number index
     → Beside number index back came → ((number ≡ 0 → ⊥) → back ≡ came → back′ ≡ came′)
     → Beside (numberIn word) (indexIn word) back′ came′
 in-word {number = number} p b f =
@@ -32,8 +32,8 @@ in-word {number = number} p b f =
     }
 
 -- the state of a refused call, beside what else was lent
-stayed : (number : ℕ) (next state : List ℕ) {left lent : List ℕ} → (number ≡ 0 → ⊥) → left ≡ lent
-    → _≡_ {A = List ℕ × List ℕ} (stateAfter number next state, left) (state, lent)
+pub stayed : (number : ℕ) (next state : List ℕ) {L : Type 0} {left lent : L} → (number ≡ 0 → ⊥) → left ≡ lent
+    → _≡_ {A = List ℕ × L} (stateAfter number next state, left) (state, lent)
 stayed number next state n e = rw (ne-eqb number 0 n) (λ i. (state, e i))
 
 -- THE THEOREMS: the state and what was lent, of each call

@@ -12,7 +12,8 @@ use Rattle.facts.specs.Upper.{upperSix}
 use Rattle.state.specs.Layout.{coderBytes, decoderBytes}
 use Rattle.state.specs.Reset.{resetBytes}
 use Rattle.promises.specs.Streams.{EncodeInput, StoreInput}
-use Rattle.promises.specs.Ends.{received, AsSent}
+use Rattle.promises.specs.StepRuns.{received}
+use Rattle.promises.specs.Ends.{AsSent}
 use Rattle.promises.specs.HostCalls.{hostCoding, hostDecoding}
 use Rattle.promises.specs.HostEnds.{bands, host-ends-equal, host-state-behind, host-states-equal}
 use Rattle.promises.specs.Turns.{Turn, reset, since}

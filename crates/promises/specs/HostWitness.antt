@@ -15,7 +15,7 @@ use Rattle.host.specs.Answer.{packed, numberIn}
 use Rattle.host.specs.Calls.{afterCoding, codeBytes, afterDecoding, decodeBytes}
 use Rattle.promises.specs.Through.{through, answers, ofAccepted}
 use Rattle.promises.specs.Streams.{EncodeInput, StoreInput}
-use Rattle.promises.specs.Ends.{received}
+use Rattle.promises.specs.StepRuns.{received}
 use Rattle.promises.specs.HostCalls.{Returned, hostCoding, hostSent, hostDecoding, hostCame}
 use Rattle.promises.specs.HostEnds.{bands, host-states-equal}
 

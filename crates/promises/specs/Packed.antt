@@ -27,11 +27,11 @@ pub record Parts (word n i : ℕ) : Type 0 where
   pub rest : word < 2 ^ 32
 
 -- numbers of a byte, and indices of 24 bits, have room in a word
-record Small (n i : ℕ) : Type 0 where
-  number : n < 2 ^ 8
-  index : i < 2 ^ 24
+pub record Small (n i : ℕ) : Type 0 where
+  pub number : n < 2 ^ 8
+  pub index : i < 2 ^ 24
 
-parts : {n i : ℕ} → Small n i → Parts (packed n i) n i
+pub parts : {n i : ℕ} → Small n i → Parts (packed n i) n i
 parts {n} {i} s = let p = parts-back n i (s .number) (s .index) in record { number = p .0; index = p .1; rest = p .2 }
 
 plain : {n : ℕ} → n < 2 ^ 8 → Small n 0

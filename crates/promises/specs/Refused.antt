@@ -12,6 +12,7 @@ use Rattle.laws.specs.Order.{by-test}
 use Rattle.g722.specs.Records.{goodCoder, goodDecoder}
 use Rattle.g722.specs.Coding.{firstBad, misfit, notCoded, coded, codeCall}
 use Rattle.g722.specs.Decoding.{notDecoded, decoded, decodeCall}
+use Rattle.g722.specs.Steps.{unpaired, notHeard, heard, hearCall, firstBadPair, notJoined, joined, joinCall}
 use Rattle.g722.specs.Cue.{dataCall, putCall, takeCall}
 use Rattle.pcm.specs.Chunks.{encodeChunk, notStored, asBytes, decodeChunk}
 use Rattle.g722.specs.declared.Coder.{Coder}
@@ -22,10 +23,13 @@ pub record Beside (number index : ℕ) {X : Type 0} (back came : X) : Type 0 whe
   pub kept : (number ≡ 0 → ⊥) → back ≡ came
   pub plain : (number ≡ 4 → ⊥) → index ≡ 0
 
-unchanged : {number : ℕ} {X : Type 0} {x : X} → Beside number 0 x x
+pub unchanged : {number : ℕ} {X : Type 0} {x : X} → Beside number 0 x x
 unchanged = record { kept = λ h. refl; plain = λ h. refl }
 
-accepted : {X : Type 0} {back came : X} → Beside 0 0 back came
+pub indexed : {index : ℕ} {X : Type 0} {x : X} → Beside 4 index x x
+indexed = record { kept = λ h. refl; plain = λ h. absurd (h refl) }
+
+pub accepted : {X : Type 0} {back came : X} → Beside 0 0 back came
 accepted = record { kept = λ h. absurd (h refl); plain = λ h. refl }
 
 -- THE THEOREMS: the record and what was lent, of each call
@@ -37,7 +41,7 @@ code-beside c s o =
     by-test (misfit (length s) (length o)) (λ e. rw e unchanged) (λ e.
     by-test (goodCoder c) (λ f.
     by-test (ltb (firstBad s) (length s))
-    (λ g. rw (e, f, g) (record { kept = λ h. refl; plain = λ h. absurd (h refl) }))
+    (λ g. rw (e, f, g) indexed)
     (λ g. rw (e, f, g) accepted))
     (λ f. rw (e, f) unchanged))
 
@@ -48,6 +52,24 @@ decode-beside d told o s =
     by-test (ltb 3 told) (λ e. rw e unchanged) (λ e.
     by-test (misfit (length s) (length o)) (λ f. rw (e, f) unchanged) (λ f.
     by-test (goodDecoder d) (λ g. rw (e, f, g) accepted) (λ g. rw (e, f, g) unchanged)))
+
+-- each of the two steps of decoding: the record with both signals, and with the samples
+pub hear-beside : (d : Decoder) (told : ℕ) (o : List ℕ) (low high : List ℤ) → let x = hearCall d told o low high in
+    Beside (x .answer .number) (x .answer .index) {X = Decoder × (List ℤ × List ℤ)} (x .answer .next, x .left) (d, (low, high))
+unfolding hearCall notHeard heard
+hear-beside d told o low high =
+    by-test (ltb 3 told) (λ e. rw e unchanged) (λ e.
+    by-test (unpaired (length o) (length low) (length high)) (λ f. rw (e, f) unchanged) (λ f.
+    by-test (goodDecoder d) (λ g. rw (e, f, g) accepted) (λ g. rw (e, f, g) unchanged)))
+
+pub join-beside : (d : Decoder) (low high s : List ℤ) → let x = joinCall d low high s in
+    Beside (x .answer .number) (x .answer .index) {X = Decoder × List ℤ} (x .answer .next, x .left) (d, s)
+unfolding joinCall notJoined joined
+join-beside d low high s =
+    by-test (misfit (length s) (length low) || not (eqb (length high) (length low))) (λ e. rw e unchanged) (λ e.
+    by-test (goodDecoder d) (λ f.
+    by-test (ltb (firstBadPair low high) (length low)) (λ g. rw (e, f, g) indexed) (λ g. rw (e, f, g) accepted))
+    (λ f. rw (e, f) unchanged))
 
 -- a data call has no record, and what it leaves alone is lent
 data-beside : (number : ℕ) (old new : List ℕ) → Beside number 0 (dataCall number old new .left) old

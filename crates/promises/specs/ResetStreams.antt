@@ -15,7 +15,8 @@ use Rattle.g722.specs.declared.Coder.{Coder}
 use Rattle.g722.specs.declared.Decoder.{Decoder}
 use Rattle.facts.specs.Told.{Told, decoderRun}
 use Rattle.facts.specs.Upper.{upperSix}
-use Rattle.promises.specs.Ends.{received, SameBands, AsSent, same-after, reset-same}
+use Rattle.promises.specs.StepRuns.{received}
+use Rattle.promises.specs.Ends.{SameBands, take-map, AsSent, same-after, reset-same}
 use Rattle.promises.specs.Turns.{Turn, reset, more, onTurn, since, since-map, turned, turned-since, given, givenInTurn, given-since}
 
 -- two samples, which one octet is sent for
@@ -104,12 +105,6 @@ module _ (ps : List (Turn Pair)) (ts : List (Turn Told)) where
       (rw (take-all n (since ps) (omega arith), take-all n (since ts) (omega arith)) at (each-octet-since n (ap (take n) e)))
 
 -- ---- turn by turn
-
-module _ {A B : Type 0} (f : A → B) where
-  take-map : (n : ℕ) (l : List A) → take n (map f l) ≡ map f (take n l)
-  take-map zero l = refl
-  take-map (suc n) [] = refl
-  take-map (suc n) (a ∷ l) = ap (λ (m : List B). f a ∷ m) (take-map n l)
 
 since-take : {A B : Type 0} (f : A → B) (n : ℕ) (ts : List (Turn A)) → since (take n (map (onTurn f) ts)) ≡ map f (since (take n ts))
 since-take f n ts = ap since (take-map (onTurn f) n ts) ∙ since-map f (take n ts)

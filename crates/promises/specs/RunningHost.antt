@@ -24,7 +24,8 @@ use Rattle.state.specs.Reset.{resetBytes}
 use Rattle.host.specs.Calls.{codeBytes, decodeBytes}
 use Rattle.promises.specs.Made.{does-prop, Made, MadeFrom, lastOf, takenOf, leftsOf}
 use Rattle.promises.specs.Made.{made-record, made-answers, made-taken, made-left}
-use Rattle.promises.specs.Ends.{received, AsSent}
+use Rattle.promises.specs.StepRuns.{received}
+use Rattle.promises.specs.Ends.{AsSent}
 use Rattle.promises.specs.Alike.{Each}
 use Rattle.promises.specs.HostCalls.{Returned, returned, hostCoding, host-octets-as-one-run, host-coder-as-one-run}
 use Rattle.promises.specs.HostCalls.{hostDecoding, host-samples-as-one-run, host-decoder-as-one-run}

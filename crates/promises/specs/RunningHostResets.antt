@@ -11,7 +11,8 @@ use Rattle.facts.specs.Told.{decoderRun}
 use Rattle.facts.specs.Upper.{upperSix}
 use Rattle.state.specs.Layout.{coderBytes, decoderBytes}
 use Rattle.state.specs.Reset.{resetBytes}
-use Rattle.promises.specs.Ends.{received, AsSent}
+use Rattle.promises.specs.StepRuns.{received}
+use Rattle.promises.specs.Ends.{AsSent}
 use Rattle.promises.specs.HostEnds.{bands}
 use Rattle.promises.specs.Through.{Calls}
 use Rattle.promises.specs.Made.{Made, MadeFrom, lastOf}

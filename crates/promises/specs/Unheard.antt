@@ -3,17 +3,15 @@
 -- decoded in mode 2 and in the last two of octets decoded in mode 3, give the same answers and the same samples, whatever stood
 -- in the memory that was lent for them, and whatever calls are refused.
 -- Assumes nothing.
-use mathlib.Core.Path.{_≡_, refl, sym, ap, ap₂, _∙_}
+use mathlib.Core.Path.{_≡_, refl, sym, ap, _∙_}
 use mathlib.Core.Bool.{cond}
-use mathlib.Core.List.{List, [], _∷_, _++_, map, head-eq-of-cons-eq, tail-eq-of-cons-eq, nil≢cons, cons≢nil}
+use mathlib.Core.List.{List, [], _∷_, map, head-eq-of-cons-eq, tail-eq-of-cons-eq, nil≢cons, cons≢nil}
 use Prim.Native.Nat.{ℕ, _/_, _%_}
-use borrow.Author.Tests.{eqb-true}
 use lib.Dec.{ltb, eqb}
 use lib.IntN.{ℤ}
-use lib.ListN.{length, drop, length-map}
+use lib.ListN.{length, length-map}
 use lib.Pow.{field, shr-shr}
 use Rattle.laws.specs.Order.{by-test}
-use Rattle.laws.specs.Outcome.{Outcome}
 use Rattle.g722.specs.Arithmetic.{limit}
 use Rattle.g722.specs.Tables.{qq5, qq4}
 use Rattle.g722.specs.Words.{fromFive, fromFour}
@@ -22,14 +20,17 @@ use Rattle.g722.specs.Band.{recons, highAfter}
 use Rattle.g722.specs.Octet.{lowWord}
 use Rattle.g722.specs.Records.{goodDecoder}
 use Rattle.g722.specs.Coding.{misfit}
-use Rattle.g722.specs.Decoding.{rlOf, rhOf, rlRow, rhRow, firstOf, secondOf, decoderStep, samplesOf, decoderAfter}
+use Rattle.g722.specs.Decoding.{rlOf, rhOf, samplesOf, decoderAfter}
 use Rattle.g722.specs.Decoding.{notDecoded, decoded, decodeCall}
-use Rattle.g722.specs.Mirror.{accumc, accumd}
+use Rattle.g722.specs.Steps.{signalsOf, bandAfter, lowNext, highNext, rlsOf, rhsOf, heardAfter, joinedOf, joinedAfter}
+use Rattle.facts.specs.Steps.{samples-in-steps, record-in-steps}
 use Rattle.facts.specs.Upper.{upperSix, low-by-four, upper-low, upper-high}
+use Rattle.g722.specs.declared.Band.{Band}
 use Rattle.g722.specs.declared.Decoder.{Decoder}
 use Rattle.g722.specs.declared.Decoded.{Decoded}
 use Rattle.promises.specs.Accepted.{decoded-run}
-use Rattle.promises.specs.Through.{through, answers, ofAccepted}
+use Rattle.promises.specs.Through.{answers}
+use Rattle.promises.specs.Alike.{Each, none as end, more as beside, answers-alike, state-alike, lefts-alike}
 use Rattle.promises.specs.Sequences.{DecodeInput, decoding, decoderThrough, samplesThrough}
 
 -- what is heard of an octet: all of it in mode 1, all but the last bit in mode 2, all but the last two in mode 3
@@ -61,48 +62,60 @@ upper mode o r e =
     (λ u. let h : o / 2 ≡ r / 2 = rw (t, u) at e in sym (shr-shr o 1 1) ∙ ap (λ (x : ℕ). x / 2) h ∙ shr-shr r 1 1)
     (λ u. rw (t, u) at e))
 
-module _ (mode : ℕ) (d : Decoder) (o r : ℕ) (e : heardBits mode o ≡ heardBits mode r) where
-  rl-same : rlRow mode d o ≡ rlRow mode d r
-  unfolding rlRow rlOf
-  rl-same = ap (λ (q : ℤ). d .past .rl ++ (limit (recons (d .low) q) ∷ [])) (heard-low mode o r (d .low .factors .scale) e)
+module _ (mode : ℕ) (s : Band) (o r : ℕ) (e : heardBits mode o ≡ heardBits mode r) where
+  rl-same : rlOf mode s o ≡ rlOf mode s r
+  unfolding rlOf
+  rl-same = ap (λ (q : ℤ). limit (recons s q)) (heard-low mode o r (s .factors .scale) e)
 
-  rh-same : rhRow d o ≡ rhRow d r
-  unfolding rhRow rhOf
-  rh-same =
-      ap (λ (w : ℕ). d .past .rh ++ (limit (recons (d .high) (invqah w (d .high .factors .scale))) ∷ []))
-      (upper-high o r (upper mode o r e))
+  rh-same : rhOf s o ≡ rhOf s r
+  unfolding rhOf
+  rh-same = ap (λ (w : ℕ). limit (recons s (invqah w (s .factors .scale)))) (upper-high o r (upper mode o r e))
 
-  first-same : firstOf mode d o ≡ firstOf mode d r
-  unfolding firstOf
-  first-same = ap₂ accumc rl-same rh-same
+  low-same : lowNext s o ≡ lowNext s r
+  low-same = low-by-four s (lowWord o) (lowWord r) (upper-low o r (upper mode o r e))
 
-  second-same : secondOf mode d o ≡ secondOf mode d r
-  unfolding secondOf
-  second-same = ap₂ accumd rl-same rh-same
+  high-same : highNext s o ≡ highNext s r
+  high-same = ap (highAfter s) (upper-high o r (upper mode o r e))
 
-  next-same : decoderStep mode d o ≡ decoderStep mode d r
-  unfolding decoderStep
-  next-same = λ i. record {
-    low = low-by-four (d .low) (lowWord o) (lowWord r) (upper-low o r (upper mode o r e)) i;
-    high = highAfter (d .high) (upper-high o r (upper mode o r e) i);
-    past = record { rl = drop 1 (rl-same i); rh = drop 1 (rh-same i) };
-  }
+-- ---- a run: the same signals of each band, so the same samples
 
--- ---- a run, a call, and calls
+-- a band whose signal and next band are the same of octets that are heard alike
+band-same : (mode : ℕ) (signal : Band → ℕ → ℤ) (next : Band → ℕ → Band)
+    → ((s : Band) (o r : ℕ) → heardBits mode o ≡ heardBits mode r → signal s o ≡ signal s r)
+    → ((s : Band) (o r : ℕ) → heardBits mode o ≡ heardBits mode r → next s o ≡ next s r)
+    → (s : Band) (os rs : List ℕ) → Alike mode os rs
+    → (signalsOf signal next s os ≡ signalsOf signal next s rs) × (bandAfter next s os ≡ bandAfter next s rs)
+unfolding signalsOf bandAfter
+band-same mode signal next f g s [] [] e = (refl, refl)
+band-same mode signal next f g s [] (r ∷ rs) e = absurd (nil≢cons e)
+band-same mode signal next f g s (o ∷ os) [] e = absurd (cons≢nil e)
+band-same mode signal next f g s (o ∷ os) (r ∷ rs) e =
+    let h = head-eq-of-cons-eq e in
+    let to = g s o r h in
+    let rest = band-same mode signal next f g (next s r) os rs (tail-eq-of-cons-eq e) in (
+      λ i. f s o r h i ∷ (ap (λ (b : Band). signalsOf signal next b os) to ∙ rest .0) i,
+      ap (λ (b : Band). bandAfter next b os) to ∙ rest .1,
+    )
 
+-- THE LAW, of the first step: the low signals, the high signals and the record
+pub heard-same : (mode : ℕ) (d : Decoder) (os rs : List ℕ) → Alike mode os rs
+    → (rlsOf mode (d .low) os ≡ rlsOf mode (d .low) rs) × (rhsOf (d .high) os ≡ rhsOf (d .high) rs) × (heardAfter d os ≡ heardAfter d rs)
+unfolding rlsOf rhsOf heardAfter
+heard-same mode d os rs a =
+    let low = band-same mode (rlOf mode) lowNext (rl-same mode) (low-same mode) (d .low) os rs a in
+    let high = band-same mode rhOf highNext (rh-same mode) (high-same mode) (d .high) os rs a in
+    (low .0, high .0, λ i. record { low = low .1 i; high = high .1 i; past = d .past })
+
+-- and so of decoding, which is what the second step makes of them
 pub run-same : (mode : ℕ) (d : Decoder) (os rs : List ℕ) → Alike mode os rs
     → (decoderAfter mode d os ≡ decoderAfter mode d rs) × (samplesOf mode d os ≡ samplesOf mode d rs)
-unfolding decoderAfter samplesOf
-run-same mode d [] [] e = (refl, refl)
-run-same mode d [] (r ∷ rs) e = absurd (nil≢cons e)
-run-same mode d (o ∷ os) [] e = absurd (cons≢nil e)
-run-same mode d (o ∷ os) (r ∷ rs) e =
-    let h = head-eq-of-cons-eq e in
-    let next = next-same mode d o r h in
-    let rest = run-same mode (decoderStep mode d r) os rs (tail-eq-of-cons-eq e) in (
-      ap (λ (c : Decoder). decoderAfter mode c os) next ∙ rest .0,
-      λ i. first-same mode d o r h i ∷ second-same mode d o r h i ∷ (ap (λ (c : Decoder). samplesOf mode c os) next ∙ rest .1) i,
+run-same mode d os rs a =
+    let e = heard-same mode d os rs a in (
+      record-in-steps mode d os ∙ (λ i. joinedAfter (e .2 i) (e .0 i) (e .1 i)) ∙ sym (record-in-steps mode d rs),
+      samples-in-steps mode d os ∙ (λ i. joinedOf (d .past) (e .0 i) (e .1 i)) ∙ sym (samples-in-steps mode d rs),
     )
+
+-- ---- a call, and calls
 
 module _ (d : Decoder) (told : ℕ) (os rs : List ℕ) (s t : List ℤ) (a : Alike (inForce told) os rs) (l : length s ≡ length t) where
   answer-same : decodeCall d told os s .answer ≡ decodeCall d told rs t .answer
@@ -132,31 +145,27 @@ pub data AlikeCalls : List DecodeInput → List DecodeInput → Type 0 where
       → Alike (inForce told) os rs → length s ≡ length t → AlikeCalls ks js
       → AlikeCalls (record { told = told; octets = os; samples = s } ∷ ks) (record { told = told; octets = rs; samples = t } ∷ js)
 
--- what an accepted call counts for
-counted : (x y : Outcome Decoded (List ℤ)) → x .answer ≡ y .answer → (x .answer .number ≡ 0 → x .left ≡ y .left)
-    → _≡_ {A = List ℤ} (cond (eqb (x .answer .number) 0) (x .left) []) (cond (eqb (y .answer .number) 0) (y .left) [])
-counted x y a l = rw (← a) (by-test (eqb (x .answer .number) 0) (λ e. rw e (l (eqb-true _ _ e))) (λ e. rw e))
+-- so call for call
+abbrev Like : DecodeInput → DecodeInput → Type 0
+Like k j =
+    (k .told ≡ j .told) × Alike (inForce (k .told)) (k .octets) (j .octets) × (length (k .samples) ≡ length (j .samples))
+
+each : {ks js : List DecodeInput} → AlikeCalls ks js → Each Like ks js
+each none = end
+each (more a l rest) = beside (refl, a, l) (each rest)
+
+alike-call : (d : Decoder) (k j : DecodeInput) → Like k j → let x = decoding .call d k in let y = decoding .call d j in
+    (x .answer ≡ y .answer) × (x .answer .number ≡ 0 → x .left ≡ y .left)
+alike-call d k j a = rw (← a .0) (call-unheard d (k .told) (k .octets) (j .octets) (k .samples) (j .samples) (a .1) (a .2))
 
 -- THE THEOREMS, of any sequence of calls, also where the mode changes between calls and where some are refused:
 -- from equal records the same number and the same record of each call, and the same samples of the accepted ones
 
 pub answers-unheard : {ks js : List DecodeInput} (d : Decoder) → AlikeCalls ks js → answers decoding d ks ≡ answers decoding d js
-unfolding answers
-answers-unheard d none = refl
-answers-unheard d (more {told = told} {os = os} {rs = rs} {s = s} {t = t} {ks = ks} a l rest) =
-    let same = call-unheard d told os rs s t a l .0 in
-    λ i. same i ∷ (ap (λ (x : Decoded). answers decoding (x .next) ks) same ∙ answers-unheard _ rest) i
+answers-unheard d a = answers-alike decoding Like alike-call d (each a)
 
 pub samples-unheard : {ks js : List DecodeInput} (d : Decoder) → AlikeCalls ks js → samplesThrough d ks ≡ samplesThrough d js
-unfolding ofAccepted
-samples-unheard d none = refl
-samples-unheard d (more {told = told} {os = os} {rs = rs} {s = s} {t = t} {ks = ks} a l rest) =
-    let same = call-unheard d told os rs s t a l in
-    let now = counted (decodeCall d told os s) (decodeCall d told rs t) (same .0) (same .1) in
-    λ i. now i ++ (ap (λ (x : Decoded). samplesThrough (x .next) ks) (same .0) ∙ samples-unheard _ rest) i
+samples-unheard d a = lefts-alike decoding Like alike-call d (each a)
 
 pub record-unheard : {ks js : List DecodeInput} (d : Decoder) → AlikeCalls ks js → decoderThrough d ks ≡ decoderThrough d js
-unfolding through
-record-unheard d none = refl
-record-unheard d (more {told = told} {os = os} {rs = rs} {s = s} {t = t} {ks = ks} a l rest) =
-    ap (λ (x : Decoded). decoderThrough (x .next) ks) (call-unheard d told os rs s t a l .0) ∙ record-unheard _ rest
+record-unheard d a = state-alike decoding Like alike-call d (each a)

@@ -28,7 +28,8 @@ use Rattle.g722.specs.declared.Decoded.{Decoded}
 use Rattle.facts.specs.Told.{decoderRun}
 use Rattle.promises.specs.Through.{answers, ofAccepted}
 use Rattle.promises.specs.Sequences.{CodeInput, coding, octetsThrough, samplesTaken, decoding, octetsTaken}
-use Rattle.promises.specs.Ends.{received, SameBands}
+use Rattle.promises.specs.StepRuns.{received}
+use Rattle.promises.specs.Ends.{SameBands}
 use Rattle.promises.specs.Carried.{Parcel, laden, withData, data-carried}
 
 -- four pairs, one with a sample out of range, and eight pairs

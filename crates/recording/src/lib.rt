@@ -1,7 +1,12 @@
 // A recording: 512-byte blocks one after another (SCOPE, logger blocks), walked and played.
 ghost use mathlib.Core.Path.{_≡_};
-ghost use Prim.Native.Nat.{_+_, _<_, _^_};
+ghost use mathlib.Core.Bool.{true};
+ghost use Prim.Native.Nat.{_+_, _*_, _^_, _<_};
+ghost use lib.ListN.{length};
 ghost use Rattle.laws.specs.Outcome.{Does};
+ghost use Rattle.g722.specs.Records.{goodDecoder};
+ghost use Rattle.decoder.specs.Step.{runOf};
+ghost use Rattle.block.specs.Formed.{Allowed};
 ghost use Rattle.recording.specs.Walk.{ended, stood, stepAt, nextAt};
 ghost use Rattle.recording.specs.Play.{startPlayer, begins, decoderFor, notPlayed, playCall};
 use block::BlockRead;
@@ -179,7 +184,38 @@ fn not_played(number: u8, p: Player) -> Played
     }
 }
 
-// Reads a block and decodes its octets, from inside it, into the front of the samples, from reset where a take begins.
+// Octets as a block may have them, heard and then joined, which is to decode them. The rows are lent for their signals.
+fn in_steps(
+    d: Decoder,
+    mode: u8,
+    octets: &[u8],
+    low: &mut [i16],
+    high: &mut [i16],
+    samples: &mut [i16],
+) -> Decoder
+    requires { ⌜ Allowed mode (length (now octets)) × (goodDecoder d ≡ true) ⌝ }
+    requires { ⌜ (length (now low) ≡ length (now octets)) × (length (now high) ≡ length (now octets)) ⌝ }
+    requires { ⌜ length (now samples) ≡ 2 * length (now octets) ⌝ }
+    ensures { λ r. ⌜ Does (runOf mode d (now (octets .entry))) r (now (samples .exit)) ⌝ }
+{
+    let heard = decoder::hear(d, mode, octets, low, high);
+    let done = decoder::join(heard.next, low, high, samples);
+    done.next
+}
+
+// The same with rows of its own, which have room for the signals of any block.
+fn heard_and_joined(d: Decoder, mode: u8, octets: &[u8], samples: &mut [i16]) -> Decoder
+    requires { ⌜ Allowed mode (length (now octets)) × (goodDecoder d ≡ true) ⌝ }
+    requires { ⌜ length (now samples) ≡ 2 * length (now octets) ⌝ }
+    ensures { λ r. ⌜ Does (runOf mode d (now (octets .entry))) r (now (samples .exit)) ⌝ }
+{
+    let n = octets.len();
+    let mut low = [0i16; 480];
+    let mut high = [0i16; 480];
+    in_steps(d, mode, octets, &mut low[..n], &mut high[..n], samples)
+}
+
+// Reads a block and decodes its octets, from inside it and in two steps, into the front of the samples, from reset where a take begins.
 // It gives reading's refusals, then 3 where the samples are too few, then 2 where the player's record is broken.
 pub fn play(p: Player, b: &[u8], samples: &mut [i16]) -> Played
     ensures { λ r. ⌜ Does (playCall p (now (b .entry)) (now (samples .entry))) r (now (samples .exit)) ⌝ }
@@ -197,8 +233,7 @@ pub fn play(p: Player, b: &[u8], samples: &mut [i16]) -> Played
         return not_played(2, p);
     }
     let d = decoder_for(p, read);
-    let done = decoder::decode(d, read.mode, &b[12..12 + count], &mut samples[..size]);
-    let next = done.next;
+    let next = heard_and_joined(d, read.mode, &b[12..12 + count], &mut samples[..size]);
     let first = samples[0];
     let last = samples[size - 1];
     Played {

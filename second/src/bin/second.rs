@@ -1,4 +1,5 @@
-//! The second codec's programs: encode, decode, put, take, log, listing, material, tells, sequences.
+//! The second codec's programs: encode, decode, hear, join, put, take, log, listing, material, tells,
+//! sequences.
 
 use second::material::{self, Stream};
 use second::{blocks, compare, cue, listing, sequences, wrong};
@@ -29,6 +30,8 @@ impl From<io::Error> for Fault {
 const USAGE: &str = "\
 second encode [WRONG]            samples (two bytes, high first) to octets
 second decode MODE [WRONG]       octets to samples, mode 0 to 3
+second hear MODE [WRONG]         octets to pairs of signals (low, high; bytes as of samples)
+second join [WRONG]              pairs of signals to samples
 second put MODE FILE             the bytes of a file into octets
 second take MODE                 the bytes out of octets
 second log TAKE MODE             octets to a recording
@@ -84,42 +87,89 @@ fn code(coder: &mut Coder, samples: &[i16]) -> Result<(), Fault> {
     Ok(done?)
 }
 
-/// Codes standard input in calls of 8000 octets from reset.
-fn encode(wrong: Wrong) -> Result<(), Fault> {
-    let mut coder = Coder::new(wrong);
+/// Gives standard input to calls of 8000 times four bytes, as numbers. A place of a refusal, of which a
+/// whole four has `places`, is counted from the input's start.
+fn by_fours(places: usize, mut call: impl FnMut(&[i16]) -> Result<(), Fault>) -> Result<(), Fault> {
     let mut before = 0;
     loop {
         let bytes = piece(4 * MOST_OCTETS)?;
-        let whole = &bytes[..bytes.len() / 4 * 4];
-        let samples = samples_of(whole);
-        code(&mut coder, &samples).map_err(|fault| match fault {
+        let whole = bytes.len() / 4;
+        call(&samples_of(&bytes[..4 * whole])).map_err(|fault| match fault {
             Fault::Refused(r) => Refusal { index: r.index + before, ..r }.into(),
             other => other,
         })?;
-        if whole.len() < bytes.len() {
+        if 4 * whole < bytes.len() {
             return Err(Refusal { number: 3, index: 0 }.into());
         }
-        if bytes.len() < 4 * MOST_OCTETS {
+        if whole < MOST_OCTETS {
             return Ok(());
         }
-        before += samples.len();
+        before += places * whole;
     }
+}
+
+/// Codes standard input in calls of 8000 octets from reset.
+fn encode(wrong: Wrong) -> Result<(), Fault> {
+    let mut coder = Coder::new(wrong);
+    by_fours(2, |samples| code(&mut coder, samples))
+}
+
+/// The mode that an argument tells.
+fn mode_of(word: &str) -> Result<u8, Refusal> {
+    let mode = ["0", "1", "2", "3"].iter().position(|text| *text == word);
+    mode.map(|mode| mode as u8).ok_or(Refusal { number: 1, index: 0 })
 }
 
 /// Decodes standard input in calls of 8000 octets from reset.
 fn decode(mode: &str, wrong: Wrong) -> Result<(), Fault> {
-    let mode = ["0", "1", "2", "3"].iter().position(|text| *text == mode);
-    let mode = mode.ok_or(Refusal { number: 1, index: 0 })?;
+    let mode = mode_of(mode)?;
     let mut decoder = Decoder::new(wrong);
     loop {
         let octets = piece(MOST_OCTETS)?;
         let mut samples = vec![0; 2 * octets.len()];
-        decoder.decode(mode as u8, &octets, &mut samples)?;
+        decoder.decode(mode, &octets, &mut samples)?;
         io::stdout().write_all(&bytes_of(&samples))?;
         if octets.len() < MOST_OCTETS {
             return Ok(());
         }
     }
+}
+
+/// Hears standard input in calls of 8000 octets from reset.
+fn hear(mode: &str, wrong: Wrong) -> Result<(), Fault> {
+    let mode = mode_of(mode)?;
+    let mut decoder = Decoder::new(wrong);
+    loop {
+        let octets = piece(MOST_OCTETS)?;
+        let [mut low, mut high] = [vec![0; octets.len()], vec![0; octets.len()]];
+        decoder.hear(mode, &octets, &mut low, &mut high)?;
+        let pairs: Vec<i16> = low.into_iter().zip(high).flat_map(|(rl, rh)| [rl, rh]).collect();
+        io::stdout().write_all(&bytes_of(&pairs))?;
+        if octets.len() < MOST_OCTETS {
+            return Ok(());
+        }
+    }
+}
+
+/// Joins and writes pairs. Where one is refused, the samples of those before it are written.
+fn select(decoder: &mut Decoder, pairs: &[i16]) -> Result<(), Fault> {
+    let (mut low, mut high): (Vec<i16>, Vec<i16>) = pairs.chunks(2).map(|p| (p[0], p[1])).unzip();
+    let mut samples = vec![0; pairs.len()];
+    let done = decoder.join(&low, &high, &mut samples);
+    if let Err(refusal) = done {
+        low.truncate(refusal.index);
+        high.truncate(refusal.index);
+        samples.truncate(2 * refusal.index);
+        decoder.join(&low, &high, &mut samples)?;
+    }
+    io::stdout().write_all(&bytes_of(&samples))?;
+    Ok(done?)
+}
+
+/// Joins standard input in calls of 8000 pairs from reset.
+fn join(wrong: Wrong) -> Result<(), Fault> {
+    let mut decoder = Decoder::new(wrong);
+    by_fours(1, |pairs| select(&mut decoder, pairs))
 }
 
 /// Puts the bytes of a file into the octets on standard input, 1000 bytes a call.
@@ -208,6 +258,8 @@ fn run(words: &[String]) -> Result<(), Fault> {
     match texts[..] {
         ["encode"] | ["encode", _] => encode(variant(words.get(1))?),
         ["decode", mode] | ["decode", mode, _] => decode(mode, variant(words.get(2))?),
+        ["hear", mode] | ["hear", mode, _] => hear(mode, variant(words.get(2))?),
+        ["join"] | ["join", _] => join(variant(words.get(1))?),
         ["put", mode, file] => put(number(mode)?, file),
         ["take", mode] => take(number(mode)?),
         ["log", take, mode] => log(number(take)?, number(mode)?),

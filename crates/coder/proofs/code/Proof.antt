@@ -7,10 +7,11 @@ use borrow.Author.Tests.{not-true, not-false}
 use lib.ListN.{length}
 use Rattle.laws.specs.Outcome.{does}
 use Rattle.facts.specs.Lengths.{twice}
+use Rattle.facts.specs.Range.{none-bad, some-bad}
 use Rattle.g722.specs.Records.{goodCoder}
 use Rattle.g722.specs.Coding.{misfit, notCoded, coded}
 use Rattle.g722.specs.declared.Coder.{Coder}
-use Rattle.coder.proofs.Laws.{none-bad, some-bad, call-misfit, call-broken, call-bad, call-done}
+use Rattle.coder.proofs.Laws.{call-misfit, call-broken, call-bad, call-done}
 use Rattle.coder.proofs.code.Statement.{statement}
 use Rattle.coder.proofs.code.Tie as tie
 

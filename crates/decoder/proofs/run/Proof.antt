@@ -1,83 +1,78 @@
 -- `decoder::run` meets its contract: what is left to do from here, from the record as it is, gives the whole.
-use Prim.Native.Nat.{_≤_, _*_, _-_, _+_, _<_, _^_, zero-le}
-use mathlib.Core.Path.{_≡_, refl, sym, ap, _∙_}
-use mathlib.Core.List.{List, _++_, _∷_}
+use mathlib.Core.Path.{_≡_, refl, sym, _∙_}
+use mathlib.Core.List.{_++_}
+use Prim.Native.Nat.{ℕ, _≤_, _*_, _-_, _+_, zero-le}
 use native.Mathlib.Omega.{arith}
-use lib.IntN.{ℤ}
-use lib.ListN.{length, take, drop, length-set}
-use Rattle.laws.specs.Back.{back16}
-use Rattle.laws.specs.Turns.{put-pair}
+use lib.ListN.{length, take, drop}
+use borrow.Rule.Slice.PartMut.{mid-len}
 use Rattle.g722.specs.Decoding.{samplesOf, decoderAfter}
-use Rattle.decoder.specs.declared.Heard.{Heard}
-use Rattle.decoder.proofs.Laws.{record-turn, samples-turn, record-end, samples-end}
+use Rattle.decoder.proofs.Blocks.{same-room, record-turn, samples-turn, record-end, samples-end}
 use Rattle.decoder.proofs.run.Statement.{statement}
 use Rattle.decoder.proofs.run.Tie as tie
 
 abbrev Inv-loop : tie.InvT-loop
-Inv-loop mode octets samples₀ s₀ i₀ i-end samples s i =
-    (i ≤ i-end)
-    × (i-end ≡ length octets)
+Inv-loop mode octets samples₀ s₀ at₀ samples s at =
+    (at ≤ length octets)
     × (length samples ≡ length samples₀)
-    × (decoderAfter mode s (drop i octets) ≡ decoderAfter mode s₀ octets)
-    × (take (2 * i) samples ++ samplesOf mode s (drop i octets) ≡ samplesOf mode s₀ octets)
+    × (decoderAfter mode s (drop at octets) ≡ decoderAfter mode s₀ octets)
+    × (take (2 * at) samples ++ samplesOf mode s (drop at octets) ≡ samplesOf mode s₀ octets)
 
 abbrev μ-loop : tie.MeasureT-loop
-μ-loop mode octets samples₀ s₀ i₀ i-end samples s i = i-end - i
+μ-loop mode octets samples₀ s₀ at₀ samples s at = length octets - at
 
 loop-holds : tie.Need-loop-holds Inv-loop μ-loop
-loop-holds c = (zero-le, refl, refl, refl, refl)
+loop-holds c = (zero-le, refl, refl, refl)
 
--- the samples' bytes are few enough for an index of them
-few : (c : tie.After-struct-told2 Inv-loop μ-loop)
-    → length (c .before .before .before .before .before .before .before .args .samples .now) * 2 < 2 ^ 63
-few c = c .before .before .before .before .before .before .before .good .1 .1 .1 .0 .1
+-- where a block ends, which is within the octets, and its samples within theirs
+module _ (l : tie.After-lesser Inv-loop μ-loop) where
+  abbrev to : ℕ
+  to = l .before .before .loop .at + l .lesser .result
 
-slice-set-from-second : tie.Need-slice-set-from-second Inv-loop μ-loop
-slice-set-from-second c = rw length-set (omega arith)
+  to-within : to ≤ length (l .before .before .before .before .args .octets .now)
+  to-within = omega (arith, l .lesser .ensures)
+
+  room : 2 * to ≤ length (l .before .before .loop .samples)
+  room = omega (arith, to-within, l .before .before .before .before .pre)
+
+block-requires : tie.Need-block-requires Inv-loop μ-loop
+block-requires c κs =
+    let l = c .before .before in
+    let lp = l .before .before in
+    let octets = mid-len (lp .loop .at) (to l) (lp .before .before .args .octets .now) (to-within l) in
+    let samples = mid-len (2 * lp .loop .at) (2 * to l) (lp .loop .samples) (room l) in
+    (omega (arith, l .lesser .ensures, octets), omega (arith, octets, samples))
 
 loop-again : tie.Need-loop-again Inv-loop μ-loop
 loop-again c =
-    let st = c .before .before .before in
-    let lp = st .before .before .before in
-    let mode = lp .before .before .args .mode in
+    let b = c .before in
+    let l = b .before .before .before in
+    let lp = l .before .before in
     let octets = lp .before .before .args .octets .now in
+    let at = lp .loop .at in
     let samples = lp .loop .samples in
-    let now = lp .loop .s in
-    let i = lp .loop .i in
     let v = lp .loop .inv in
-    let heard = st .step .result in
-    let first = back16 (heard .first) (c .before .before .struct-told .given .0 .1) in
-    let second = back16 (heard .second) (c .before .struct-told2 .given .1 .0 .1) in
-    let inside : i < length octets = omega arith in
-    let two : 2 * i + 1 < length samples = omega arith in
-    let rest = samplesOf mode (heard .next) (drop (i + 1) octets) in (
-      omega arith,
-      v .1,
-      simp length-set (v .2),
-      ap (λ (t : Heard). decoderAfter mode (t .next) (drop (i + 1) octets)) (st .step .ensures)
-          ∙ sym (record-turn mode now octets i inside)
-          ∙ v .3,
-      put-pair samples rest i _ _ two
-          ∙ (λ j. take (2 * i) samples ++ first j ∷ second j ∷ rest)
-          ∙ ap (λ (t : Heard). take (2 * i) samples ++ t .first ∷ t .second ∷ samplesOf mode (t .next) (drop (i + 1) octets))
-          (st .step .ensures)
-          ∙ ap (λ (l : List ℤ). take (2 * i) samples ++ l) (sym (samples-turn mode now octets i inside))
-          ∙ v .4,
+    let on : at ≤ to l = omega arith in
+    let done = b .block .ensures in (
+      to-within l,
+      same-room _ _ octets at (to l) on samples _ (to-within l) (room l) (done .left) ∙ v .1,
+      record-turn _ _ octets at (to l) on samples _ (to-within l) (room l) (done .left) (done .answer) ∙ v .2,
+      samples-turn _ _ octets at (to l) on samples _ (to-within l) (room l) (done .left) (done .answer) ∙ v .3,
     )
 
 same-length : tie.Need-same-length Inv-loop μ-loop
-same-length c = c .before .loop .inv .2
+same-length c = c .before .loop .inv .1
 
 returns : tie.Need-returns Inv-loop μ-loop
 returns c =
     let lp = c .before in
     let v = lp .loop .inv in
-    let octets = lp .before .before .args .octets .now in
-    let done : length octets ≤ lp .loop .i = omega arith in
-    let full : length (lp .loop .samples) ≤ 2 * lp .loop .i = omega arith in
+    let start = lp .before .before in
+    let octets = start .args .octets .now in
+    let done : length octets ≤ lp .loop .at = omega arith in
+    let full : length (lp .loop .samples) ≤ 2 * lp .loop .at = omega (arith, start .pre) in
     record {
-      answer = sym (record-end _ (lp .loop .s) octets (lp .loop .i) done) ∙ v .3;
-      left = sym (samples-end _ (lp .loop .s) octets (lp .loop .i) done (lp .loop .samples) full) ∙ v .4;
+      answer = sym (record-end _ (lp .loop .s) octets (lp .loop .at) done) ∙ v .2;
+      left = sym (samples-end _ (lp .loop .s) octets (lp .loop .at) done (lp .loop .samples) full) ∙ v .3;
     }
 
 pub run-spec : {M : Type 1} → statement M
@@ -89,14 +84,17 @@ run-spec =
     loop-holds
     (λ c. omega arith)
     (λ c κs. tt)
-    (λ c. omega (arith, few c))
-    (λ c. omega (arith, few c))
     (λ c. omega arith)
-    (λ c. omega (arith, few c))
-    (λ c. omega (arith, few c))
-    (λ c. omega (arith, few c))
-    slice-set-from-second
     (λ c. omega arith)
+    (λ c. omega arith)
+    (λ c. omega arith)
+    (λ c. omega arith)
+    (λ c. omega arith)
+    (λ c. omega arith)
+    (λ c. omega arith)
+    (λ c. omega arith)
+    (λ c. omega arith)
+    block-requires
     (λ c. omega arith)
     loop-again
     same-length

@@ -1,4 +1,4 @@
--- `recording::play` meets its contract: the decoder is lent a part of the block and a part of the samples, and each way out is a case of
+-- `recording::play` meets its contract: the steps are lent a part of the block and a part of the samples, and each way out is a case of
 -- the definition.
 use mathlib.Core.Path.{refl, sym, _∙_}
 use mathlib.Core.List.{_++_}
@@ -10,7 +10,7 @@ use borrow.Author.Tests.{not-true, not-false}
 use Rattle.laws.specs.Back.{back16}
 use Rattle.laws.specs.Outcome.{does}
 use Rattle.recording.specs.Played.{Bounds, play-unread, play-narrow, play-broken}
-use Rattle.recording.proofs.Laws.{bounds, played, as-reported}
+use Rattle.recording.proofs.Laws.{bounds, ready, played, as-reported}
 use borrow.Author.Needs.{needs}
 use Rattle.recording.proofs.play.Statement.{statement}
 use Rattle.recording.proofs.play.Tie as tie
@@ -32,7 +32,7 @@ roomy c = omega arith
 -- and so they are after the call
 long : (c : tie.After-samples)
     → let e = c .before .before .before .before .before .before .before .before in
-    2 * e .before .before .read .result .count ≤ length (c .before .decode .last .1 .1 .1 .0 ++ drop
+    2 * e .before .before .read .result .count ≤ length (c .before .heard-and-joined .last .1 .1 .1 .0 ++ drop
     (2 * e .before .before .read .result .count) (e .before .before .before .before .args .samples .now))
 long c = omega (arith, roomy (c .before .before .before .before .before .before .before), c .samples .given)
 
@@ -51,42 +51,49 @@ returns-3 c =
     let broken = sym (c .before .before .good-decoder .ensures) ∙ not-true _ (c .before .if3 .taken) in
     does (play-broken _ _ _ _ (e .before .before .read .ensures) (e .if1 .left) (roomy f) broken) (c .not-played3 .ensures) refl
 
-add-decode : tie.Need-add-decode
-add-decode c = omega (arith, within (c .before .before .before .before) .says .count-most)
+add-heard-and-joined : tie.Need-add-heard-and-joined
+add-heard-and-joined c = omega (arith, within (c .before .before .before .before) .says .count-most)
 
-part-decode-end : tie.Need-part-decode-end
-part-decode-end c =
+part-heard-and-joined-end : tie.Need-part-heard-and-joined-end
+part-heard-and-joined-end c =
     let b = within (c .before .before .before .before) in
     omega (arith, b .says .count-most, b .size)
 
-slice-aggregate-decode : tie.Need-slice-aggregate-decode
-slice-aggregate-decode c = sym (length-take-le _ _ (omega arith))
+slice-aggregate-heard-and-joined : tie.Need-slice-aggregate-heard-and-joined
+slice-aggregate-heard-and-joined c = sym (length-take-le _ _ (omega arith))
+
+heard-and-joined-requires : tie.Need-heard-and-joined-requires
+heard-and-joined-requires c κs =
+    let s = c .before .before .before in
+    let f = s .before .before in
+    let e = f .before in
+    let good = sym (s .before .good-decoder .ensures) ∙ not-false _ (s .if3 .left) in
+    ready _ _ (e .before .before .read .ensures) (e .if1 .left) _ _ (roomy f) good (c .before .before .decoder-for .ensures)
 
 slice-copy-out-first : tie.Need-slice-copy-out-first
 slice-copy-out-first c =
-    let t = c .before in
-    omega (arith, within (t .before .before .before .before .before .before .before .before) .says .count-least, long t)
+    omega (arith, within (c .before .before .before .before .before .before .before .before) .says .count-least, long c)
 
 sub-last : tie.Need-sub-last
-sub-last c = omega (arith, within (c .before .before .before .before .before .before .before .before .before .before) .says .count-least)
+sub-last c = omega (arith, within (c .before .before .before .before .before .before .before .before .before) .says .count-least)
 
 mul-last : tie.Need-mul-last
-mul-last c = omega (arith, within (c .before .before .before .before .before .before .before .before .before .before) .says .count-most)
+mul-last c = omega (arith, within (c .before .before .before .before .before .before .before .before .before) .says .count-most)
 
 slice-copy-out-last : tie.Need-slice-copy-out-last
 slice-copy-out-last c =
-    let t = c .before .before in
+    let t = c .before in
     omega (arith, within (t .before .before .before .before .before .before .before .before) .says .count-least, long t)
 
 returns-4 : tie.Need-returns-4
 returns-4 c =
-    let t = c .before .before .before in
+    let t = c .before .before in
     let s = t .before .before .before .before .before in
     let f = s .before .before in
     let e = f .before in
     let good = sym (s .before .good-decoder .ensures) ∙ not-false _ (s .if3 .left) in
     let d = t .before .before .before .before .decoder-for .ensures in
-    played _ _ (e .before .before .read .ensures) (e .if1 .left) _ _ (roomy f) good d (t .before .decode .ensures)
+    played _ _ (e .before .before .read .ensures) (e .if1 .left) _ _ (roomy f) good d (t .before .heard-and-joined .ensures)
     (as-reported _ _ _ (back16 _ (c .before .first .given)) (back16 _ (c .last .given)))
 
 pub play-spec : {M : Type 1} → statement M
@@ -103,13 +110,13 @@ play-spec =
     (λ c κs. search needs)
     returns-3
     (λ c κs. search needs)
-    add-decode
+    add-heard-and-joined
     (λ c. search needs)
     (λ c. search needs)
-    part-decode-end
+    part-heard-and-joined-end
     (λ c. search needs)
-    slice-aggregate-decode
-    (λ c κs. search needs)
+    slice-aggregate-heard-and-joined
+    heard-and-joined-requires
     slice-copy-out-first
     sub-last
     mul-last
