@@ -1,8 +1,10 @@
 """Runs the proved programs and the second codec's, each within a time limit, and compares what they write."""
 import collections
 import os
+import pathlib
 import subprocess
 import sys
+import tempfile
 
 TOP = os.path.dirname(os.path.dirname(os.path.abspath(__file__)))
 SECOND = f"{TOP}/second/target/release/second"
@@ -27,6 +29,21 @@ def ours(program, *words, given=b""):
 
 def second(program, *words, given=b""):
     return run(["timeout", str(SECONDS), SECOND, program, *words], given)
+
+
+def woven(ports):
+    """The octets of all ports as ticks, one octet of each after the other, up to the last whole tick."""
+    return bytes(octet for tick in zip(*ports) for octet in tick)
+
+
+def desk(modes, ports):
+    """What the proved desk sends to each port, by files, for the octets of each port; and the run."""
+    with tempfile.TemporaryDirectory() as folder:
+        given, sent = ([pathlib.Path(folder, f"{name}.{port}") for port in range(len(ports))] for name in ("given", "sent"))
+        for path, octets in zip(given, ports):
+            path.write_bytes(octets)
+        done = ours("desk", str(len(ports)), *modes, *map(str, given + sent))
+        return [path.read_bytes() if path.exists() else b"" for path in sent], done
 
 
 def material(kind, seed, n):

@@ -54,12 +54,17 @@ impl Coder {
         ih
     }
 
-    /// The octet H1 H2 L1..L6 of one pair of samples.
-    fn octet(&mut self, older: i32, newer: i32) -> u8 {
-        let (xl, xh) = self.sub_bands(older, newer);
+    /// The octet H1 H2 L1..L6 of the signals XL and XH.
+    pub fn of_signals(&mut self, xl: i32, xh: i32) -> u8 {
         let il = self.code_low(xl);
         let ih = self.code_high(xh);
         ih << 6 | il
+    }
+
+    /// The octet of one pair of samples.
+    fn octet(&mut self, older: i32, newer: i32) -> u8 {
+        let (xl, xh) = self.sub_bands(older, newer);
+        self.of_signals(xl, xh)
     }
 
     /// Codes 2n samples into the n lent octets. Refusals in the order 3, 4.

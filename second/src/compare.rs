@@ -1,7 +1,7 @@
 //! Which material tells a wrong codec from the right one.
 
 use crate::material::Stream;
-use crate::{Coder, Decoder, Wrong, MOST_OCTETS};
+use crate::{Coder, Decoder, Desk, Wrong, MOST_OCTETS};
 
 /// Where a wrong codec first answers otherwise.
 #[derive(Clone, Copy, Debug, PartialEq, Eq, Default)]
@@ -30,6 +30,14 @@ pub fn encode_all(samples: &[i16], wrong: Wrong) -> Vec<u8> {
         all.append(&mut octets);
     }
     all
+}
+
+/// The octets of a stream: as they are, or what the right coder makes of samples.
+pub fn octets_of(stream: &Stream) -> Vec<u8> {
+    match stream {
+        Stream::Samples(samples) => encode_all(samples, Wrong::None),
+        Stream::Octets(octets) => octets.clone(),
+    }
 }
 
 /// All samples of the octets, from reset, the modes taken in turn by the calls
@@ -87,6 +95,20 @@ pub fn step_all(octets: &[u8], modes: &[u8], call: usize, wrong: Wrong) -> Vec<i
     all
 }
 
+/// All octets that a desk sends to each port, from reset, for what each port
+/// gives it. The ticks take the modes of all ports in turn.
+pub fn mix_all(ports: &[Vec<u8>], modes: &[Vec<u8>], wrong: Wrong) -> Vec<Vec<u8>> {
+    let mut desk = Desk::reset(ports.len(), wrong).expect("the ports are 2 to 8");
+    let mut all = vec![vec![]; ports.len()];
+    for (tick, modes) in (0..ports[0].len()).zip(modes.iter().cycle()) {
+        let octets: Vec<u8> = ports.iter().map(|octets| octets[tick]).collect();
+        let mut room = vec![0; ports.len()];
+        desk.tick(modes, &octets, &mut room).expect("the modes are 0 to 3");
+        all.iter_mut().zip(room).for_each(|(sent, octet)| sent.push(octet));
+    }
+    all
+}
+
 /// The first place where two answers differ.
 fn first_difference<T: PartialEq>(one: &[T], other: &[T]) -> Option<usize> {
     one.iter().zip(other).position(|(a, b)| a != b)
@@ -96,14 +118,10 @@ fn first_difference<T: PartialEq>(one: &[T], other: &[T]) -> Option<usize> {
 /// by both; what the right coder sends, or the octets given, both decode.
 pub fn compare(stream: &Stream, wrong: Wrong) -> Told {
     let mut told = Told::default();
-    let octets = match stream {
-        Stream::Octets(octets) => octets.clone(),
-        Stream::Samples(samples) => {
-            let right = encode_all(samples, Wrong::None);
-            told.coder = first_difference(&right, &encode_all(samples, wrong));
-            right
-        }
-    };
+    let octets = octets_of(stream);
+    if let Stream::Samples(samples) = stream {
+        told.coder = first_difference(&octets, &encode_all(samples, wrong));
+    }
     let ways: [(&[u8], usize); 4] = [(&[1], 8000), (&[2], 8000), (&[3], 8000), (&[0, 3, 2], 37)];
     for (place, (modes, call)) in ways.into_iter().enumerate() {
         let right = decode_all(&octets, modes, call, Wrong::None);

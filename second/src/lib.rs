@@ -12,6 +12,7 @@ pub mod coder;
 pub mod compare;
 pub mod cue;
 pub mod decoder;
+pub mod desk;
 pub mod filters;
 pub mod history;
 pub mod listing;
@@ -23,6 +24,7 @@ pub mod wrong;
 
 pub use coder::Coder;
 pub use decoder::Decoder;
+pub use desk::Desk;
 pub use wrong::Wrong;
 
 /// The most octets that one call may cover.

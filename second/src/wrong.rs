@@ -1,6 +1,6 @@
 //! Errors that sound right for a while, each one switch.
 
-/// Which error the codec, the listing or a step makes on purpose.
+/// Which error the codec, the listing, a step or the desk makes on purpose.
 #[derive(Clone, Copy, Debug, PartialEq, Eq, Default)]
 pub enum Wrong {
     /// The right codec.
@@ -64,6 +64,20 @@ pub enum Wrong {
     LowLookedFirst,
     /// The second step joins the pairs before a bad one, and then refuses.
     JoinedUntilBad,
+    /// A port of the desk hears itself too.
+    OwnLeftIn,
+    /// The desk limits the sum of all ports, and then takes a port's own away.
+    TotalLimited,
+    /// The desk sums over seven ports, also where there are eight.
+    EighthLeftOut,
+    /// The desk codes its sums unlimited.
+    SumsUnlimited,
+    /// The desk decodes each port in the mode of the next.
+    NeighboursMode,
+    /// The desk decodes all ports in the mode of the first.
+    FirstMode,
+    /// The first two ports of the desk exchange their coders at every tick.
+    CodersExchanged,
 }
 
 /// The errors of the codec.
@@ -107,8 +121,19 @@ pub const STEPS: [Wrong; 6] = [
     Wrong::JoinedUntilBad,
 ];
 
+/// The errors of the desk, over the right codec.
+pub const DESK: [Wrong; 7] = [
+    Wrong::OwnLeftIn,
+    Wrong::TotalLimited,
+    Wrong::EighthLeftOut,
+    Wrong::SumsUnlimited,
+    Wrong::NeighboursMode,
+    Wrong::FirstMode,
+    Wrong::CodersExchanged,
+];
+
 /// The error of that name, as it is spelt above.
 pub fn by_name(name: &str) -> Option<Wrong> {
-    let errors = CODEC.into_iter().chain(LISTING).chain(STEPS);
+    let errors = CODEC.into_iter().chain(LISTING).chain(STEPS).chain(DESK);
     errors.chain([Wrong::None]).find(|wrong| format!("{wrong:?}") == name)
 }

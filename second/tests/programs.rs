@@ -1,6 +1,6 @@
 //! The programs on bytes: what they write and what they refuse.
 
-use second::compare::{decode_all, encode_all, hear_all, join_all};
+use second::compare::{decode_all, encode_all, hear_all, join_all, mix_all};
 use second::material::{self, Kind, Stream};
 use second::Wrong;
 use std::io::Write;
@@ -110,6 +110,48 @@ fn pairs_are_joined_up_to_what_is_refused() {
     for surplus in 1..4 {
         let input = [woven(&signals), vec![0; surplus]].concat();
         assert_eq!(run(&["join"], &input), (samples.clone(), "refused 3 0\n".to_string()));
+    }
+}
+
+/// The octets of all ports, one of each after the other.
+fn ticks(ports: &[Vec<u8>]) -> Vec<u8> {
+    (0..ports[0].len()).flat_map(|tick| ports.iter().map(move |octets| octets[tick])).collect()
+}
+
+#[test]
+fn ports_are_mixed_up_to_the_last_whole_tick() {
+    let port = |first: usize| encode_all(&noise(20007)[first..first + 20000], Wrong::None);
+    let ports: Vec<Vec<u8>> = (0..8).map(port).collect();
+    let words = ["desk", "8", "0", "1", "2", "3", "3", "2", "1", "0"];
+    let mixed = |wrong| ticks(&mix_all(&ports, &[vec![0, 1, 2, 3, 3, 2, 1, 0]], wrong));
+    let sent = mixed(Wrong::None);
+    assert_eq!(run(&words, &ticks(&ports)), (sent.clone(), String::new()));
+    let wrong = [&words[..], &["SumsUnlimited"]].concat();
+    assert_eq!(run(&wrong, &ticks(&ports)), (mixed(Wrong::SumsUnlimited), String::new()));
+    assert_ne!(run(&wrong, &ticks(&ports)).0, sent);
+    for surplus in 1..8 {
+        let input = [ticks(&ports), vec![0; surplus]].concat();
+        assert_eq!(run(&words, &input), (sent.clone(), "refused 3 0\n".to_string()));
+    }
+    assert_eq!(run(&words, &[]), (vec![], String::new()));
+}
+
+#[test]
+fn the_words_of_a_desk_are_refused_in_their_order() {
+    for ports in ["0", "1", "9", "255"] {
+        for words in [&["desk", ports][..], &["desk", ports, "4", "x"]] {
+            assert_eq!(run(words, &[0; 7]), (vec![], "refused 9 0\n".to_string()));
+        }
+    }
+    for modes in [["4", "1"], ["1", "4"], ["1", "255"]] {
+        let words = ["desk", "2", modes[0], modes[1]];
+        assert_eq!(run(&words, &[0; 7]), (vec![], "refused 1 0\n".to_string()));
+    }
+    for words in
+        ["desk", "desk 2", "desk 2 1", "desk x 1 1", "desk 256 1 1", "desk 2 4 1 None None"]
+    {
+        let (out, said) = run(&words.split(' ').collect::<Vec<&str>>(), &[0; 8]);
+        assert!(out.is_empty() && said.starts_with("second encode"), "{words}: {said}");
     }
 }
 

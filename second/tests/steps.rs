@@ -1,8 +1,8 @@
 //! Decoding in two steps: what each gives, moves and refuses, and every wrong
 //! step told from the right one.
 
-use second::compare::{decode_all, encode_all, hear_all, join_all, step_all};
-use second::material::{self, material, Kind, Stream};
+use second::compare::{decode_all, hear_all, join_all, octets_of, step_all};
+use second::material::{self, material, Kind};
 use second::tables::H;
 use second::{wrong, Decoder, Refusal, Wrong};
 
@@ -11,17 +11,9 @@ fn refusal(number: u8, index: usize) -> Result<(), Refusal> {
     Err(Refusal { number, index })
 }
 
-/// The octets of a stream: as they are, or what the coder makes of samples.
-fn octets(stream: &Stream) -> Vec<u8> {
-    match stream {
-        Stream::Samples(samples) => encode_all(samples, Wrong::None),
-        Stream::Octets(octets) => octets.clone(),
-    }
-}
-
 /// Octets of any value.
 fn random(seed: u64, n: usize) -> Vec<u8> {
-    octets(&material::stream(Kind::Random, seed, n))
+    octets_of(&material::stream(Kind::Random, seed, n))
 }
 
 /// Low and high signals of any value in range, as no decoder would give them.
@@ -161,7 +153,7 @@ fn each_step_moves_its_own_part() {
 #[test]
 fn both_steps_are_decoding() {
     for (kind, stream) in material(5) {
-        let octets = octets(&stream);
+        let octets = octets_of(&stream);
         for (modes, call) in [(vec![1], 8000), (vec![0, 3, 2], 37), (vec![2], 1)] {
             let samples = decode_all(&octets, &modes, call, Wrong::None);
             assert_eq!(step_all(&octets, &modes, call, Wrong::None), samples, "{kind:?}");
@@ -221,7 +213,7 @@ const BY_JOIN: [Wrong; 2] = [Wrong::PhasesExchanged, Wrong::ReceiveWraps];
 #[test]
 fn the_step_that_errs_tells_what_decoding_tells() {
     for (kind, stream) in material(0) {
-        let octets = octets(&stream);
+        let octets = octets_of(&stream);
         let (modes, call) = ([0, 3, 2], 37);
         let signals = hear_all(&octets, &modes, call, Wrong::None);
         let samples = decode_all(&octets, &modes, call, Wrong::None);
@@ -240,7 +232,7 @@ fn the_step_that_errs_tells_what_decoding_tells() {
 #[test]
 fn errors_of_the_steps_are_told_where_decoding_is_right() {
     for (kind, stream) in material(0) {
-        let octets = octets(&stream);
+        let octets = octets_of(&stream);
         let (modes, call) = ([0, 3, 2], 37);
         let signals = hear_all(&octets, &modes, call, Wrong::None);
         let samples = decode_all(&octets, &modes, call, Wrong::None);

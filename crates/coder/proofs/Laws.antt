@@ -21,8 +21,9 @@ use Rattle.band.specs.Loop.{estimated, adapted, halves}
 use Rattle.mirror.specs.declared.Halves.{Halves}
 use Rattle.mirror.specs.Filters.{splitOf}
 use Rattle.coder.specs.declared.Word.{Word}
+use Rattle.coder.specs.declared.Banded.{Banded}
 use Rattle.coder.specs.declared.Sent.{Sent}
-use Rattle.coder.specs.Step.{lowCoded, highCoded, sentOf}
+use Rattle.coder.specs.Step.{lowCoded, highCoded, bandsCoded, sentOf}
 
 -- ---- one band, low or high: its word and the band after it, step by step
 
@@ -44,21 +45,26 @@ module _ (quant : ℤ → ℤ → ℕ) (inverse : ℕ → ℤ → ℤ) (factors 
       let next = next≡ ∙ (λ i. adapted band (e≡ i) (d i) (f i)) ∙ halves band _ _ in
       λ i. record { word = w i; next = next i }
 
--- ---- one pair
+-- ---- both bands, and one pair
+
+pub signals-coded : (low high : Band) (xl xh : ℤ) {l h : Word} {o : ℕ}
+    → l ≡ lowCoded low xl → h ≡ highCoded high xh → o ≡ octet (h .word) (l .word)
+    → _≡_ {A = Banded} (record { octet = o; low = l .next; high = h .next }) (bandsCoded low high xl xh)
+unfolding bandsCoded lowCoded highCoded
+signals-coded low high xl xh l≡ h≡ o≡ =
+    let o = o≡ ∙ λ i. octet (h≡ i .word) (l≡ i .word) in
+    λ i. record { octet = o i; low = l≡ i .next; high = h≡ i .next }
 
 module _ (c : Coder) (x y : ℤ) where
-  pub pair-sent : {w : List ℤ} {hv : Halves} {l h : Word} {o : ℕ} {p : List ℤ}
-      → w ≡ c .past ++ (x ∷ y ∷ []) → hv ≡ splitOf w → l ≡ lowCoded (c .low) (hv .xl) → h ≡ highCoded (c .high) (hv .xh)
-      → o ≡ octet (h .word) (l .word) → p ≡ drop 2 w
-      → _≡_ {A = Sent} (record { octet = o; next = record { low = l .next; high = h .next; past = p } }) (sentOf c x y)
-  unfolding sentOf octetOf ilOf ihOf coderStep window splitOf lowCoded highCoded
-  pair-sent w≡ hv≡ l≡ h≡ o≡ p≡ =
+  pub pair-sent : {w : List ℤ} {hv : Halves} {b : Banded} {p : List ℤ}
+      → w ≡ c .past ++ (x ∷ y ∷ []) → hv ≡ splitOf w → b ≡ bandsCoded (c .low) (c .high) (hv .xl) (hv .xh) → p ≡ drop 2 w
+      → _≡_ {A = Sent} (record { octet = b .octet; next = record { low = b .low; high = b .high; past = p } }) (sentOf c x y)
+  unfolding sentOf octetOf ilOf ihOf coderStep window splitOf bandsCoded
+  pair-sent w≡ hv≡ b≡ p≡ =
       let hv = hv≡ ∙ ap splitOf w≡ in
-      let l = l≡ ∙ λ i. lowCoded (c .low) (hv i .xl) in
-      let h = h≡ ∙ λ i. highCoded (c .high) (hv i .xh) in
-      let o = o≡ ∙ λ i. octet (h i .word) (l i .word) in
+      let b = b≡ ∙ λ i. bandsCoded (c .low) (c .high) (hv i .xl) (hv i .xh) in
       let p = p≡ ∙ ap (λ (t : List ℤ). drop 2 t) w≡ in
-      λ i. record { octet = o i; next = record { low = l i .next; high = h i .next; past = p i } }
+      λ i. record { octet = b i .octet; next = record { low = b i .low; high = b i .high; past = p i } }
 
 -- ---- the run
 

@@ -18,3 +18,6 @@ low-coded = equation (λ κs a l m. refl) (λ M. coder.low_coded.Met.met)
 
 pub high-coded : LeavesOne coder.high_coded.ended (λ M. coder.high_coded.clauses) coder.high_coded.Symbol.routine
 high-coded = equation (λ κs a l m. refl) (λ M. coder.high_coded.Met.met)
+
+pub bands-coded : LeavesOne coder.bands_coded.ended (λ M. coder.bands_coded.clauses) coder.bands_coded.Symbol.routine
+bands-coded = equation (λ κs a l m. refl) (λ M. coder.bands_coded.Met.met)

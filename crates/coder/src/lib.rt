@@ -18,6 +18,7 @@ use bounds::reset_band;
 use g722::Band;
 use g722::Coded;
 use g722::Coder;
+pub use pair::bands_coded;
 pub use pair::high_coded;
 pub use pair::low_coded;
 use pair::step;
@@ -26,6 +27,13 @@ use pair::step;
 pub struct Word {
     pub word: u8,
     pub next: Band,
+}
+
+// An octet, and both bands after it.
+pub struct Banded {
+    pub octet: u8,
+    pub low: Band,
+    pub high: Band,
 }
 
 // An octet, and the coder after it.

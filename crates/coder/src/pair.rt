@@ -2,7 +2,8 @@
 ghost use mathlib.Core.Path.{_≡_};
 ghost use Prim.Native.Nat.{_<_};
 ghost use Rattle.g722.specs.Octet.{octet};
-ghost use Rattle.coder.specs.Step.{lowCoded, highCoded, sentOf};
+ghost use Rattle.coder.specs.Step.{lowCoded, highCoded, bandsCoded, sentOf};
+use crate::Banded;
 use crate::Sent;
 use crate::Word;
 use arith::sub;
@@ -56,6 +57,21 @@ fn octet(ih: u8, il: u8) -> u8
     ih * 64 + il
 }
 
+// Both sub-band coders, without the transmit filter: the octet of a low and a high signal.
+pub fn bands_coded(low: Band, high: Band, xl: i16, xh: i16) -> Banded
+    ensures { λ r. ⌜ r ≡ bandsCoded low high xl xh ⌝ }
+{
+    let l = low_coded(low, xl);
+    let h = high_coded(high, xh);
+    let low_next = l.next;
+    let high_next = h.next;
+    Banded {
+        octet: octet(h.word, l.word),
+        low: low_next,
+        high: high_next,
+    }
+}
+
 // One pair, x before y.
 pub(crate) fn step(c: Coder, x: i16, y: i16) -> Sent
     ensures { λ r. ⌜ r ≡ sentOf c x y ⌝ }
@@ -65,12 +81,11 @@ pub(crate) fn step(c: Coder, x: i16, y: i16) -> Sent
     let high = c.high;
     let w = window(past, x, y);
     let signals = split(&w);
-    let l = low_coded(low, signals.xl);
-    let h = high_coded(high, signals.xh);
-    let low_next = l.next;
-    let high_next = h.next;
+    let b = bands_coded(low, high, signals.xl, signals.xh);
+    let low_next = b.low;
+    let high_next = b.high;
     Sent {
-        octet: octet(h.word, l.word),
+        octet: b.octet,
         next: Coder {
             low: low_next,
             high: high_next,

@@ -12,6 +12,7 @@ use Rattle.g722.specs.Band.{predic, lowAfter, highAfter}
 use Rattle.g722.specs.Mirror.{lowt, hight}
 use Rattle.g722.specs.Octet.{octet}
 use Rattle.g722.specs.Records.{inRange, goodCoder}
+use Rattle.g722.specs.declared.Band.{Band}
 use Rattle.g722.specs.declared.Coder.{Coder}
 use Rattle.g722.specs.declared.Coded.{Coded}
 
@@ -19,12 +20,19 @@ use Rattle.g722.specs.declared.Coded.{Coded}
 unfoldable pub window : Coder → ℤ → ℤ → List ℤ
 window c x y = c .past ++ (x ∷ y ∷ [])
 
+-- the two sub-band coders: the word of a band's signal
+abbrev pub lowWordOf : Band → ℤ → ℕ
+lowWordOf s x = quantl (subtra x (predic s)) (s .factors .scale)
+
+abbrev pub highWordOf : Band → ℤ → ℕ
+highWordOf s x = quanth (subtra x (predic s)) (s .factors .scale)
+
 -- IL and IH of a pair
 unfoldable pub ilOf : Coder → ℤ → ℤ → ℕ
-ilOf c x y = quantl (subtra (lowt (window c x y)) (predic (c .low))) (c .low .factors .scale)
+ilOf c x y = lowWordOf (c .low) (lowt (window c x y))
 
 unfoldable pub ihOf : Coder → ℤ → ℤ → ℕ
-ihOf c x y = quanth (subtra (hight (window c x y)) (predic (c .high))) (c .high .factors .scale)
+ihOf c x y = highWordOf (c .high) (hight (window c x y))
 
 -- one pair: its octet, and the record after it
 unfoldable pub octetOf : Coder → ℤ → ℤ → ℕ

@@ -18,7 +18,8 @@ use Rattle.g722.specs.declared.Decoder.{Decoder}
 use Rattle.facts.specs.Told.{Told, decoderRun}
 use Rattle.promises.specs.Through.{answers}
 use Rattle.promises.specs.Sequences.{CodeInput, octetsThrough, samplesTaken, DecodeInput, decoding, samplesThrough}
-use Rattle.promises.specs.Ends.{SameBands, AsSent, ends-equal}
+use Rattle.promises.specs.SameBands.{SameBands}
+use Rattle.promises.specs.Ends.{AsSent, ends-equal}
 use Rattle.promises.specs.Unheard.{heardBits, Alike, AlikeCalls, none, more, answers-unheard, samples-unheard}
 
 -- octets that go together, with the data to be put into them, the mode for it, and the memory lent for their samples.

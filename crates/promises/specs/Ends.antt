@@ -6,54 +6,22 @@
 -- Assumes nothing.
 use mathlib.Core.Path.{_≡_, refl, sym, ap, _∙_}
 use mathlib.Core.List.{List, [], _∷_, map, head-eq-of-cons-eq, tail-eq-of-cons-eq, nil≢cons, cons≢nil}
-use Prim.Native.Nat.{ℕ, zero, suc, _+_, _*_, _/_}
+use Prim.Native.Nat.{ℕ, zero, suc, _+_, _*_}
 use native.Mathlib.Omega.{arith}
 use lib.IntN.{ℤ}
 use lib.ListN.{length, take}
 use lib.Seq.{take-nil, take-length, take-all}
-use Rattle.g722.specs.Band.{lowAfter, highAfter}
-use Rattle.g722.specs.Octet.{highWord, lowWord}
 use Rattle.g722.specs.Records.{resetCoder, resetDecoder}
-use Rattle.g722.specs.Coding.{ilOf, ihOf, octetOf, octetsOf, coderStep, coderAfter}
+use Rattle.g722.specs.Coding.{octetsOf, coderStep, coderAfter}
 use Rattle.g722.specs.Steps.{bandAfter, heardAfter, joinedAfter}
-use Rattle.facts.specs.Sent.{quantl-small, low-of-octet, high-of-octet}
-use Rattle.facts.specs.Upper.{upperSix, low-by-four, upper-low, upper-high}
-use Rattle.g722.specs.declared.Band.{Band}
+use Rattle.facts.specs.Upper.{upperSix}
 use Rattle.g722.specs.declared.Coder.{Coder}
 use Rattle.g722.specs.declared.Decoder.{Decoder}
 use Rattle.facts.specs.Told.{Told, decoderRun}
+use Rattle.promises.specs.SameBands.{SameBands, same-samples}
 use Rattle.promises.specs.StepRuns.{received, decoder-run-in-steps}
 use Rattle.promises.specs.Sequences.{CodeInput, coderThrough, octetsThrough, samplesTaken, coder-as-one-run, octets-as-one-run}
 use Rattle.promises.specs.Sequences.{DecodeInput, decoderThrough, octetsTaken, decoder-as-one-run}
-
--- both bands: predictors, log factors and scale factors
-pub record SameBands (c : Coder) (d : Decoder) : Type 0 where
-  pub low : c .low ≡ d .low
-  pub high : c .high ≡ d .high
-
--- ---- the octet holds what the coder's loop used
-
-low-sent : (c : Coder) (x y : ℤ) → lowWord (octetOf c x y) ≡ ilOf c x y
-unfolding octetOf ilOf
-low-sent c x y = low-of-octet (ihOf c x y) (ilOf c x y) (quantl-small _ _)
-
-high-sent : (c : Coder) (x y : ℤ) → highWord (octetOf c x y) ≡ ihOf c x y
-unfolding octetOf ilOf
-high-sent c x y = high-of-octet (ihOf c x y) (ilOf c x y) (quantl-small _ _)
-
--- one octet
-step : (c : Coder) (d : Decoder) (x y : ℤ) (o : ℕ) → SameBands c d → upperSix (octetOf c x y) ≡ upperSix o
-    → SameBands (coderStep c x y) (heardAfter d (o ∷ []))
-unfolding coderStep heardAfter bandAfter
-step c d x y o s e = record {
-  low =
-      low-by-four (c .low) (ilOf c x y) (lowWord o)
-      (ap (λ (w : ℕ). w / 4) (sym (low-sent c x y)) ∙ upper-low (octetOf c x y) o e)
-      ∙ ap (λ (b : Band). lowAfter b (lowWord o)) (s .low);
-  high =
-      ap (highAfter (c .high)) (sym (high-sent c x y) ∙ upper-high (octetOf c x y) o e)
-      ∙ ap (λ (b : Band). highAfter b (highWord o)) (s .high);
-}
 
 -- ---- a run at each end, from equal bands
 
@@ -70,7 +38,7 @@ same-heard (suc n) c d (x ∷ []) (o ∷ os) b e = absurd (nil≢cons e)
 same-heard (suc n) c d (x ∷ y ∷ s) [] b e = absurd (cons≢nil e)
 same-heard (suc n) c d (x ∷ y ∷ s) (o ∷ os) b e =
     let k : 2 * suc n ≡ suc (suc (2 * n)) = omega arith in
-    rw k (same-heard n (coderStep c x y) (heardAfter d (o ∷ [])) s os (step c d x y o b (head-eq-of-cons-eq e)) (tail-eq-of-cons-eq e))
+    rw k (same-heard n (coderStep c x y) (heardAfter d (o ∷ [])) s os (same-samples c d x y o b (head-eq-of-cons-eq e)) (tail-eq-of-cons-eq e))
 
 -- after all that came, as long as it came as it was sent
 pub heard-behind : (c : Coder) (d : Decoder) (s : List ℤ) (os : List ℕ) → SameBands c d

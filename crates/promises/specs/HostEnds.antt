@@ -17,7 +17,8 @@ use Rattle.state.specs.Reset.{resetBytes}
 use Rattle.promises.specs.Through.{through}
 use Rattle.promises.specs.Streams.{EncodeInput, StoreInput}
 use Rattle.promises.specs.StepRuns.{received}
-use Rattle.promises.specs.Ends.{SameBands, AsSent, same-after, same-behind, same-at-end, reset-same}
+use Rattle.promises.specs.SameBands.{SameBands}
+use Rattle.promises.specs.Ends.{AsSent, same-after, same-behind, same-at-end, reset-same}
 use Rattle.promises.specs.HostCalls.{hostCoding, hostSent, hostSpoken, host-octets-from-reset, host-coder-from-reset}
 use Rattle.promises.specs.HostCalls.{hostDecoding, hostCame, host-decoder-from-reset}
 

@@ -17,6 +17,7 @@ pub mod Streams
 pub mod Good
 pub mod Fitting
 -- the two ends
+pub mod SameBands
 pub mod Ends
 pub mod StepEnds
 pub mod Turns
@@ -42,6 +43,9 @@ pub mod HostUnheard
 pub mod HostSignals
 pub mod HostCarried
 pub mod HostWitness
+-- the conference desk
+pub mod DeskCalls
+pub mod DeskEnds
 -- the running code
 pub mod Made
 pub mod Running
@@ -57,3 +61,4 @@ pub mod Allowed
 pub mod AllowedSteps
 pub mod AllowedHost
 pub mod AllowedTurns
+pub mod RunningDesk

@@ -16,7 +16,8 @@ use Rattle.g722.specs.declared.Decoder.{Decoder}
 use Rattle.facts.specs.Told.{Told, decoderRun}
 use Rattle.facts.specs.Upper.{upperSix}
 use Rattle.promises.specs.StepRuns.{received}
-use Rattle.promises.specs.Ends.{SameBands, take-map, AsSent, same-after, reset-same}
+use Rattle.promises.specs.SameBands.{SameBands}
+use Rattle.promises.specs.Ends.{take-map, AsSent, same-after, reset-same}
 use Rattle.promises.specs.Turns.{Turn, reset, more, onTurn, since, since-map, turned, turned-since, given, givenInTurn, given-since}
 
 -- two samples, which one octet is sent for

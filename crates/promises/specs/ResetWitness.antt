@@ -24,7 +24,7 @@ use Rattle.g722.specs.Decoding.{decoderStep}
 use Rattle.g722.specs.declared.Band.{Band}
 use Rattle.facts.specs.Told.{Told}
 use Rattle.facts.specs.Upper.{upperSix}
-use Rattle.promises.specs.Ends.{SameBands}
+use Rattle.promises.specs.SameBands.{SameBands}
 use Rattle.promises.specs.Turns.{Turn, reset, more, since, sinceAfter, turned, givenInTurn}
 use Rattle.promises.specs.ResetStreams.{Pair, speak, hear, coderAfterTurns, decoderAfterTurns, sentTurns, each-octet-since}
 

@@ -16,7 +16,8 @@ use Rattle.facts.specs.Upper.{upperSix}
 use Rattle.promises.specs.Through.{Calls, done, following, through, ofAccepted, taken, lefts}
 use Rattle.promises.specs.Sequences.{CodeInput, coding, DecodeInput, decoding}
 use Rattle.promises.specs.StepRuns.{received}
-use Rattle.promises.specs.Ends.{SameBands, AsSent, ends-equal, record-behind, records-equal}
+use Rattle.promises.specs.SameBands.{SameBands}
+use Rattle.promises.specs.Ends.{AsSent, ends-equal, record-behind, records-equal}
 use Rattle.promises.specs.Turns.{Turn, reset, since, turned, turned-since, past-forgotten, given, givenInTurn, given-since}
 
 -- ---- the calls and resets of an end

@@ -25,7 +25,8 @@ use Rattle.g722.specs.declared.Decoded.{Decoded}
 use Rattle.facts.specs.Told.{Told, decoderRun, samplesRun}
 use Rattle.promises.specs.Sequences.{coding, coding-runs, decoding, decoding-runs}
 use Rattle.promises.specs.StepRuns.{received}
-use Rattle.promises.specs.Ends.{SameBands, AsSent, same-after, same-behind, same-at-end, reset-same}
+use Rattle.promises.specs.SameBands.{SameBands}
+use Rattle.promises.specs.Ends.{AsSent, same-after, same-behind, same-at-end, reset-same}
 use Rattle.promises.specs.Unheard.{AlikeCalls, answers-unheard, samples-unheard, record-unheard}
 use Rattle.promises.specs.Made.{does-prop, Made, MadeFrom, lastOf, takenOf, leftsOf, made-record, made-answers, made-left}
 use Rattle.promises.specs.Made.{made-as-one-run, made-left-as-one-run}

@@ -16,7 +16,8 @@ use Rattle.g722.specs.declared.Decoder.{Decoder}
 use Rattle.g722.specs.declared.Moved.{Moved}
 use Rattle.facts.specs.Told.{decoderRun}
 use Rattle.promises.specs.Sequences.{DecodeInput}
-use Rattle.promises.specs.Ends.{SameBands, AsSent}
+use Rattle.promises.specs.SameBands.{SameBands}
+use Rattle.promises.specs.Ends.{AsSent}
 use Rattle.promises.specs.Carried.{Parcel, laden, withData, withoutData, six-kept, alike-calls}
 use Rattle.promises.specs.Made.{MadeFrom, lastOf}
 use Rattle.promises.specs.Running.{Reset-coder, Reset-decoder, Coding, Decoding, codings, decodings, sent, spoken, came, heard}

@@ -12,7 +12,8 @@ use Rattle.g722.specs.declared.Decoder.{Decoder}
 use Rattle.facts.specs.Told.{decoderRun}
 use Rattle.facts.specs.Upper.{upperSix}
 use Rattle.promises.specs.StepRuns.{received}
-use Rattle.promises.specs.Ends.{SameBands, AsSent}
+use Rattle.promises.specs.SameBands.{SameBands}
+use Rattle.promises.specs.Ends.{AsSent}
 use Rattle.promises.specs.Turns.{Turn, reset, since}
 use Rattle.promises.specs.Running.{Reset-coder, Reset-decoder, did-reset-coder, did-reset-decoder}
 use Rattle.promises.specs.Running.{Coding, Decoding, codings, decodings, sent, spoken, came}

@@ -11,7 +11,8 @@ use Rattle.g722.specs.declared.Coder.{Coder}
 use Rattle.g722.specs.declared.Decoder.{Decoder}
 use Rattle.facts.specs.Upper.{upperSix}
 use Rattle.promises.specs.StepRuns.{received}
-use Rattle.promises.specs.Ends.{SameBands, heard-behind, heard-at-end, reset-same}
+use Rattle.promises.specs.SameBands.{SameBands}
+use Rattle.promises.specs.Ends.{heard-behind, heard-at-end, reset-same}
 use Rattle.promises.specs.StepOrder.{lowLeft, highLeft}
 use Rattle.promises.specs.Alike.{Each}
 use Rattle.promises.specs.UnheardSteps.{AlikeStep, steps-answers-unheard, steps-record-unheard}

@@ -16,7 +16,8 @@ use Rattle.promises.specs.Sequences.{CodeInput, coderThrough, octetsThro
 use Rattle.promises.specs.HearCalls.{HearInput, hearThrough, octetsHeard, hear-as-one-run}
 use Rattle.promises.specs.StepGiven.{StepInput}
 use Rattle.promises.specs.StepOrder.{stepping, octetsStepped, steps-record}
-use Rattle.promises.specs.Ends.{SameBands, heard-behind, heard-at-end, reset-same}
+use Rattle.promises.specs.SameBands.{SameBands}
+use Rattle.promises.specs.Ends.{heard-behind, heard-at-end, reset-same}
 
 module _ (ks : List CodeInput) where
   -- the octets came as they were sent, as far as they came, or all of them: as far as their upper six bits go

@@ -1,9 +1,9 @@
-//! The second codec's programs: encode, decode, hear, join, put, take, log, listing, material, tells,
-//! sequences.
+//! The second codec's programs: encode, decode, hear, join, sub_bands, desk, put, take, log, listing,
+//! material, tells, sequences.
 
 use second::material::{self, Stream};
-use second::{blocks, compare, cue, listing, sequences, wrong};
-use second::{Coder, Decoder, Refusal, Wrong, MOST_OCTETS};
+use second::{blocks, compare, cue, desk, listing, sequences, wrong};
+use second::{Coder, Decoder, Desk, Refusal, Wrong, MOST_OCTETS};
 use std::io::{self, Read, Write};
 use std::path::Path;
 use std::process::ExitCode;
@@ -32,6 +32,8 @@ second encode [WRONG]            samples (two bytes, high first) to octets
 second decode MODE [WRONG]       octets to samples, mode 0 to 3
 second hear MODE [WRONG]         octets to pairs of signals (low, high; bytes as of samples)
 second join [WRONG]              pairs of signals to samples
+second sub_bands [WRONG]         pairs of signals to octets, without the transmit filter
+second desk PORTS MODE.. [WRONG] ticks of one octet a port to octets for each port
 second put MODE FILE             the bytes of a file into octets
 second take MODE                 the bytes out of octets
 second log TAKE MODE             octets to a recording
@@ -172,6 +174,37 @@ fn join(wrong: Wrong) -> Result<(), Fault> {
     by_fours(1, |pairs| select(&mut decoder, pairs))
 }
 
+/// Mixes the ticks on standard input from reset. The words after the number of ports are a mode for
+/// each and perhaps a wrong variant.
+fn mix(ports: &str, words: &[String]) -> Result<(), Fault> {
+    let ports = desk::number_of_ports(number::<u8>(ports)?.into())?;
+    if ![ports, ports + 1].contains(&words.len()) {
+        return Err(Fault::Usage);
+    }
+    let mut desk = Desk::reset(ports, variant(words.get(ports))?)?;
+    let modes: Result<Vec<u8>, Refusal> = words[..ports].iter().map(|word| mode_of(word)).collect();
+    let (modes, octets) = (modes?, everything()?);
+    let mut sent = vec![0; octets.len() / ports * ports];
+    for (tick, room) in octets.chunks(ports).zip(sent.chunks_mut(ports)) {
+        desk.tick(&modes, tick, room)?;
+    }
+    io::stdout().write_all(&sent)?;
+    if sent.len() < octets.len() {
+        return Err(Refusal { number: 3, index: 0 }.into());
+    }
+    Ok(())
+}
+
+/// Codes the pairs of signals on standard input from reset, without the transmit filter.
+fn sub_bands(wrong: Wrong) -> Result<(), Fault> {
+    let mut coder = Coder::new(wrong);
+    by_fours(1, |pairs| {
+        let octets: Vec<u8> =
+            pairs.chunks(2).map(|pair| coder.of_signals(pair[0].into(), pair[1].into())).collect();
+        Ok(io::stdout().write_all(&octets)?)
+    })
+}
+
 /// Puts the bytes of a file into the octets on standard input, 1000 bytes a call.
 fn put(mode: u8, file: &str) -> Result<(), Fault> {
     let bytes = std::fs::read(file)?;
@@ -260,6 +293,8 @@ fn run(words: &[String]) -> Result<(), Fault> {
         ["decode", mode] | ["decode", mode, _] => decode(mode, variant(words.get(2))?),
         ["hear", mode] | ["hear", mode, _] => hear(mode, variant(words.get(2))?),
         ["join"] | ["join", _] => join(variant(words.get(1))?),
+        ["sub_bands"] | ["sub_bands", _] => sub_bands(variant(words.get(1))?),
+        ["desk", ports, ..] => mix(ports, &words[2..]),
         ["put", mode, file] => put(number(mode)?, file),
         ["take", mode] => take(number(mode)?),
         ["log", take, mode] => log(number(take)?, number(mode)?),

@@ -1,0 +1,34 @@
+-- `mixer::in_turn` meets its contract: what is sent is made of what was heard.
+use mathlib.Core.Path.{ap, _∙_}
+use mathlib.Core.List.{List, zip, zipWith}
+use borrow.Author.Needs.{needs}
+use lib.IntN.{ℤ}
+use Rattle.conference.specs.Sums.{mixed}
+use Rattle.conference.specs.Ports.{octetTo, coderTo, eachPort}
+use Rattle.conference.specs.Tick.{signalsTo, octetsTo, deskAfter}
+use Rattle.mixer.proofs.in_turn.Statement.{statement}
+use Rattle.mixer.proofs.in_turn.Tie as tie
+
+hear-all-requires : tie.Need-hear-all-requires
+hear-all-requires c κs =
+    let p = c .before .before .before .before .before .before .before .pre in
+    (p .0, (p .1 .0, (p .1 .1 .0, p .1 .1 .1 .0)))
+
+returns : tie.Need-returns
+unfolding deskAfter octetsTo signalsTo
+returns c =
+    let s = c .before .before in
+    let h = s .before .before .before .before .before .before in
+    let desk = h .before .before .before .before .before .before .before .before .args .desk in
+    let heard = h .hear-all .ensures in
+    let signals = ap (λ (l : List ℤ × List ℤ). zip (mixed (l .0)) (mixed (l .1))) (heard .left) in
+    let coders = s .send-all .ensures .answer ∙ ap (eachPort coderTo (desk .coders)) signals in
+    record {
+      answer = λ i. record { ports = desk .ports; coders = coders i; decoders = heard .answer i };
+      left = s .send-all .ensures .left ∙ ap (zipWith octetTo (desk .coders)) signals;
+    }
+
+pub in-turn-spec : {M : Type 1} → statement M
+in-turn-spec =
+    tie.close
+    (tie.spec hear-all-requires (λ c κs. search needs) (λ c. search needs) (λ c. search needs) (λ c. search needs) returns)

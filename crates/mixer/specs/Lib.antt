@@ -1,0 +1,2 @@
+-- What the parts of a tick give back.
+pub mod Run

@@ -1,0 +1,26 @@
+-- What the parts of a tick give back.
+-- Assumes nothing.
+use mathlib.Core.List.{List, zip, zipWith}
+use Prim.Native.Nat.{ℕ}
+use lib.IntN.{ℤ}
+use Rattle.laws.specs.Outcome.{Outcome}
+use Rattle.g722.specs.declared.Coder.{Coder}
+use Rattle.g722.specs.declared.Decoder.{Decoder}
+use Rattle.conference.specs.Sums.{mixed}
+use Rattle.conference.specs.Ports.{rlsFrom, rhsFrom, decoderFrom, octetTo, coderTo, eachPort}
+use Rattle.conference.specs.Tick.{octetsTo, deskAfter}
+use Rattle.conference.specs.declared.Desk.{Desk}
+
+abbrev pub hearRun : List Decoder → List ℕ → List ℕ → Outcome (List Decoder) (List ℤ × List ℤ)
+hearRun decoders modes octets =
+    record { answer = eachPort decoderFrom decoders octets; left = (rlsFrom decoders modes octets, rhsFrom decoders octets) }
+
+abbrev pub sendRun : List Coder → List ℤ → List ℤ → Outcome (List Coder) (List ℕ)
+sendRun coders low high =
+    record {
+      answer = eachPort coderTo coders (zip (mixed low) (mixed high));
+      left = zipWith octetTo coders (zip (mixed low) (mixed high));
+    }
+
+abbrev pub deskRun : Desk → List ℕ → List ℕ → Outcome Desk (List ℕ)
+deskRun desk modes octets = record { answer = deskAfter desk modes octets; left = octetsTo desk modes octets }

@@ -1,0 +1,2 @@
+-- What a port gives and is sent.
+pub mod Step
