@@ -6,6 +6,9 @@
  * TEXT goes into the last bits of the octets, if MODE is 2 or 3. At the other end the text is taken out again, and shown
  * on standard error; the octets are decoded in MODE, 0 to 3, and what is heard is written to standard output.
  *
+ * The overload lamp is on while samples of what is heard have to be limited: a line says in which frame it went on, and one
+ * at the end how many samples were limited in how many frames.
+ *
  * The status is 0 where all was done, 2 where the arguments are not those, and 1 else, with a line on standard error. */
 #include <errno.h>
 #include <stdio.h>
@@ -23,6 +26,8 @@ struct rack {
     uint8_t mode;
     const char *text; /* what is still to be sent, or null where no text was given */
     int shown;        /* whether a line of text has been begun on standard error */
+    int lit;          /* whether samples of the last frame were limited */
+    unsigned long frames, lit_frames, limited; /* frames decoded, those with limited samples, and all such samples */
 };
 
 /* Ends the line of text, so that what is said next has a line of its own. */
@@ -96,17 +101,36 @@ static void show(struct rack *r, const uint8_t *data, size_t bytes)
         }
 }
 
-/* The receiving end: takes the text out, and decodes. */
+/* The overload lamp: what the answer of a decoded frame says of it. A frame that is limited like the one before has no line. */
+static void light(struct rack *r, uint64_t answer)
+{
+    unsigned long limited = (unsigned long)zelcandry_limited(answer);
+    if (limited && !r->lit) {
+        end_line(r);
+        fprintf(stderr, "overload: frame %lu, %lu samples limited\n", r->frames, limited);
+    }
+    r->lit = limited != 0;
+    r->lit_frames += limited != 0;
+    r->limited += limited;
+    r->frames++;
+}
+
+/* The receiving end: takes the text out, decodes, and lights the lamp. */
 static int receive_frame(struct rack *r, const uint8_t *octets, size_t n, uint8_t *heard)
 {
     uint8_t data[DATA];
     size_t filled, bytes = room(r->mode, n, &filled);
+    uint64_t answer;
     if (r->text) {
         if (!done(r, "take", zelcandry_take(r->mode, octets, filled, data, bytes)))
             return 0;
         show(r, data, bytes);
     }
-    return done(r, "decode", zelcandry_decode(r->decoder, sizeof r->decoder, r->mode, octets, n, heard, 4 * n));
+    answer = zelcandry_decode(r->decoder, sizeof r->decoder, r->mode, octets, n, heard, 4 * n);
+    if (!done(r, "decode", answer))
+        return 0;
+    light(r, answer);
+    return 1;
 }
 
 /* One frame of up to 160 pairs of samples, through both ends. */
@@ -142,7 +166,8 @@ static int run(struct rack *r)
 
 int main(int argc, char **argv)
 {
-    struct rack r = {ZELCANDRY_CODER_RESET, ZELCANDRY_DECODER_RESET, 0, NULL, 0};
+    struct rack r = {ZELCANDRY_CODER_RESET, ZELCANDRY_DECODER_RESET, 0, NULL, 0, 0, 0, 0, 0};
+    int all;
     char *end = NULL;
     unsigned long mode = (argc == 2 || argc == 3) ? strtoul(argv[1], &end, 10) : 0;
     if (!end || end == argv[1] || *end || mode > 255 || *argv[1] == '-') {
@@ -151,5 +176,8 @@ int main(int argc, char **argv)
     }
     r.mode = (uint8_t)mode;
     r.text = argv[2];
-    return run(&r) ? 0 : 1;
+    all = run(&r);
+    if (r.limited)
+        fprintf(stderr, "overload: %lu samples limited in %lu frames\n", r.limited, r.lit_frames);
+    return all ? 0 : 1;
 }

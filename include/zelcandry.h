@@ -20,6 +20,10 @@
  *            last two are, 16 kbit/s. The decoder is told the mode, and 0 where it is not known, which is mode 1. The
  *            coder has no mode: it always fills all eight bits, and zelcandry_put replaces the last ones.
  *
+ * Overload   What comes out of a filter or a band beyond the range is limited to it, and heard as distortion. The answer
+ *            counts how often a call did so: the light to show beside the level. A value that reaches an end of the
+ *            range by itself is not counted. Each call counts from 0.
+ *
  * Every call looks at all that it is given, and ends. A refused call changes no byte of what it was lent. Where several
  * refusals apply, the one named first below is given.
  *
@@ -70,7 +74,8 @@ enum zelcandry_refusal {
     ZELCANDRY_NO_DATA = 5     /* mode 0 or 1, which has no room for data */
 };
 
-/* The parts of an answer: the number, and the index, which is 0 unless the number is ZELCANDRY_BAD_SAMPLE. */
+/* The parts of an answer: the number; the index, which is 0 unless the number is ZELCANDRY_BAD_SAMPLE; and the count of
+ * values that this call limited, which is 0 unless it is done. */
 static inline unsigned zelcandry_number(uint64_t answer)
 {
     return (unsigned)(answer & 0xFF);
@@ -81,13 +86,20 @@ static inline size_t zelcandry_index(uint64_t answer)
     return (size_t)(answer >> 8 & 0xFFFFFF);
 }
 
-/* Codes samples_len = 4 * octets_len bytes of samples to octets, and moves the coder's state on.
+static inline size_t zelcandry_limited(uint64_t answer)
+{
+    return (size_t)(answer >> 32);
+}
+
+/* Codes samples_len = 4 * octets_len bytes of samples to octets, and moves the coder's state on. Counted are the signals
+ * that the transmit filter makes of them, of both bands together.
  * Refused, in this order: BAD_LENGTH, BAD_STATE, BAD_SAMPLE. */
 uint64_t zelcandry_code(uint8_t *state, size_t state_len,
                         const uint8_t *samples, size_t samples_len,
                         uint8_t *octets, size_t octets_len);
 
-/* Decodes octets to samples_len = 4 * octets_len bytes of samples, and moves the decoder's state on.
+/* Decodes octets to samples_len = 4 * octets_len bytes of samples, and moves the decoder's state on. Counted are samples,
+ * and no signals.
  * Refused, in this order: BAD_MODE, BAD_LENGTH, BAD_STATE. */
 uint64_t zelcandry_decode(uint8_t *state, size_t state_len, uint8_t mode,
                           const uint8_t *octets, size_t octets_len,
@@ -97,20 +109,21 @@ uint64_t zelcandry_decode(uint8_t *state, size_t state_len, uint8_t mode,
  * bands of the decoder's state on and leaves its past pairs; zelcandry_join moves the past pairs and leaves the bands.
  * Hearing octets and then joining their signals leaves the samples and the state that zelcandry_decode leaves.
  *
- * The first step: octets to low_len = high_len = 2 * octets_len bytes of low and high signals.
+ * The first step: octets to low_len = high_len = 2 * octets_len bytes of low and high signals. Counted are signals, of
+ * both bands together.
  * Refused, in this order: BAD_MODE, BAD_LENGTH, BAD_STATE. */
 uint64_t zelcandry_hear(uint8_t *state, size_t state_len, uint8_t mode,
                         const uint8_t *octets, size_t octets_len,
                         uint8_t *low, size_t low_len, uint8_t *high, size_t high_len);
 
-/* The second step: low_len = high_len bytes of signals to samples_len = 2 * low_len bytes of samples.
+/* The second step: low_len = high_len bytes of signals to samples_len = 2 * low_len bytes of samples. Counted are samples.
  * Refused, in this order: BAD_LENGTH, BAD_STATE, BAD_SAMPLE, of which the index counts pairs of signals. */
 uint64_t zelcandry_join(uint8_t *state, size_t state_len,
                         const uint8_t *low, size_t low_len, const uint8_t *high, size_t high_len,
                         uint8_t *samples, size_t samples_len);
 
 /* Puts data into the last bits of octets, the highest bit of each byte first, and changes no other bit. The data has to
- * fill the octets: one byte for 8 octets in mode 2, for 4 in mode 3.
+ * fill the octets: one byte for 8 octets in mode 2, for 4 in mode 3. Nothing is limited or counted.
  * Refused, in this order: BAD_MODE, NO_DATA, BAD_LENGTH. */
 uint64_t zelcandry_put(uint8_t mode, uint8_t *octets, size_t octets_len, const uint8_t *data, size_t data_len);
 

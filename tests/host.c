@@ -1,6 +1,7 @@
 /* The six calls as a C or C++ program sees them: the worked sums, every refusal in its order, every wrong length, every byte of
- * the state spoilt, and nothing touched that is not to be. What a call must answer is worked out here from the rules of SCOPE;
- * what is coded and heard is compared with a second codec elsewhere (rust/tests). It stops at the first fault. */
+ * the state spoilt, what was limited counted, and nothing touched that is not to be. What a call must answer is worked out here
+ * from the rules of SCOPE; what is coded and heard is compared with a second codec elsewhere (rust/tests). It stops at the first
+ * fault. */
 #ifndef _GNU_SOURCE
 #define _GNU_SOURCE
 #endif
@@ -157,6 +158,97 @@ static uint64_t expected(enum call c)
     return c == JOIN && (first = first_bad(high.at, first_bad(low.at, n))) < n ? 4 + 256 * (uint64_t)first : 0;
 }
 
+/* ---- what must be limited: SCOPE 39 and 41. A value is its sum divided and rounded down, so it is out of range where the sum is
+ * not from -16384 to just below 16384 times the divisor. */
+enum { SENT = 22, PAIRS = 11, MOST = 8000 };
+
+static int beyond(long sum, long divisor)
+{
+    return sum < -16384 * divisor || sum >= 16384 * divisor;
+}
+
+/* A coefficient of both filters, G.722 (11/88), Table 11. */
+static int h(int i)
+{
+    static const int half[12] = {3, -11, -11, 53, 12, -156, 32, 362, -210, -805, 951, 3876};
+    return half[i < 12 ? i : 23 - i];
+}
+
+/* The state before the call. */
+static const uint8_t *state_was(void)
+{
+    return state.was + (state.at - state.room);
+}
+
+/* How many of XL and XH are limited where these are coded: the samples of the state, and then n pairs. */
+static size_t sent_limited(const uint8_t *given, size_t n)
+{
+    static int x[SENT + 2 * MOST];
+    size_t limited = 0;
+    for (size_t i = 0; i < SENT + 2 * n; i++)
+        x[i] = value(i < SENT ? state_was() + BANDS + 2 * i : given + 2 * (i - SENT));
+    for (size_t newest = SENT + 1; newest < SENT + 2 * n; newest += 2) {
+        long even = 0, odd = 0;
+        for (int i = 0; i < 24; i += 2) {
+            even += (long)h(i) * x[newest - i];
+            odd += (long)h(i + 1) * x[newest - i - 1];
+        }
+        limited += beyond(even + odd, 8192) + beyond(even - odd, 8192);
+    }
+    return limited;
+}
+
+/* How many samples are limited where these are joined: the pairs of the state, and then n low and high signals. */
+static size_t joined_limited(const uint8_t *lows, const uint8_t *highs, size_t n)
+{
+    static int rl[PAIRS + MOST], rh[PAIRS + MOST];
+    size_t limited = 0;
+    for (size_t i = 0; i < PAIRS + n; i++) {
+        rl[i] = value(i < PAIRS ? state_was() + BANDS + 2 * i : lows + 2 * (i - PAIRS));
+        rh[i] = value(i < PAIRS ? state_was() + BANDS + 2 * (PAIRS + i) : highs + 2 * (i - PAIRS));
+    }
+    for (size_t newest = PAIRS; newest < PAIRS + n; newest++) {
+        long first = 0, second = 0;
+        for (int i = 0; i < 12; i++) {
+            first += (long)h(2 * i) * (rl[newest - i] - rh[newest - i]);
+            second += (long)h(2 * i + 1) * (rl[newest - i] + rh[newest - i]);
+        }
+        limited += beyond(first, 4096) + beyond(second, 4096);
+    }
+    return limited;
+}
+
+/* How many of n values stand at an end of the range, as all do that were limited. */
+static size_t at_ends(const uint8_t *p, size_t n)
+{
+    size_t count = 0;
+    for (size_t i = 0; i < n; i++)
+        count += value(p + 2 * i) == -16384 || value(p + 2 * i) == 16383;
+    return count;
+}
+
+/* Whether a call that was done may have this count. That of a decoding is known where all its pairs are still in the state; else, and
+ * for heard signals, only how many values stand at the ends is known here, and the worked counts and in_turn say more. */
+static int right_count(enum call c, size_t count)
+{
+    size_t n = octets.len;
+    const uint8_t *past = state.at + BANDS;
+    switch (c) {
+    case CODE:
+        return count == sent_limited(samples.at, n);
+    case JOIN:
+        return count == joined_limited(low.at, high.at, low.len / 2);
+    case DECODE:
+        if (n > PAIRS)
+            return count <= at_ends(samples.at, 2 * n);
+        return count == joined_limited(past + 2 * (PAIRS - n), past + 2 * (2 * PAIRS - n), n);
+    case HEAR:
+        return count <= at_ends(low.at, n) + at_ends(high.at, n);
+    default:
+        return count == 0;
+    }
+}
+
 static uint64_t made(enum call c)
 {
     switch (c) {
@@ -175,6 +267,9 @@ static uint64_t made(enum call c)
     }
 }
 
+static size_t counted;                          /* the count of the last attempt */
+static unsigned long lit[CALLS], dark[CALLS]; /* calls of each kind that limited something, and that are done and did not */
+
 /* Makes a call and looks at all that may be seen of it. Gives the number back. */
 static unsigned attempt(const char *what, enum call c)
 {
@@ -185,16 +280,22 @@ static unsigned attempt(const char *what, enum call c)
     }
     got = made(c);
     calls++;
-    if (got != want || zelcandry_number(got) != (want & 255) || zelcandry_index(got) != want >> 8)
+    if ((uint32_t)got != want || zelcandry_number(got) != (want & 255) || zelcandry_index(got) != want >> 8
+        || zelcandry_limited(got) != got >> 32)
         fault(what, got, want);
+    counted = zelcandry_limited(got);
+    if (want == 0 ? !right_count(c, counted) : counted != 0)
+        fault("another count of limited values", got, want);
+    lit[c] += want == 0 && counted != 0;
+    dark[c] += want == 0 && counted == 0;
     for (int i = 0; i < RUNS; i++)
         if (touched(all[i], want != 0 || !writes(c, all[i])))
             fault("memory was touched", got, want);
     if (want == 0 && c <= JOIN && !good_state(c == CODE ? 1 : 2))
         fault("a broken state was left", got, want);
-    if (want == 0 && c == HEAR && memcmp(state.at + BANDS, state.was + (state.at - state.room) + BANDS, STATE - BANDS))
+    if (want == 0 && c == HEAR && memcmp(state.at + BANDS, state_was() + BANDS, STATE - BANDS))
         fault("the first step moved the past pairs", got, want);
-    if (want == 0 && c == JOIN && memcmp(state.at, state.was + (state.at - state.room), BANDS))
+    if (want == 0 && c == JOIN && memcmp(state.at, state_was(), BANDS))
         fault("the second step moved a band", got, want);
     return zelcandry_number(got);
 }
@@ -285,6 +386,73 @@ static void step_sums(void)
         if (attempt("a worked step", c) != 0 || value(low.at) != rows[i].low || value(high.at) != rows[i].high
             || (c == JOIN && (value(samples.at) != rows[i].first || value(samples.at + 2) != rows[i].second)))
             fault("a worked step came out otherwise", i, 0);
+    }
+}
+
+/* Heard signals that come to an end of the range by themselves, which is not counted, and one step beyond. Prediction is the whole of
+ * them: a first coefficient of 16384 or -16384 and a past difference of 16384, whose double stops at 32767, give 16383 and -16384. The
+ * octet adds what it is in step_sums; its upper bits 11, 10, 01 and 00 add 0, 1, -1 and -2 to the high signal. */
+static void heard_counts(void)
+{
+    static const uint8_t reset[STATE] = ZELCANDRY_DECODER_RESET;
+    static const struct { int low, high; uint8_t mode, octet; size_t count; } rows[] = {
+        {16384, 0, 2, 0xFA, 0}, {16384, 0, 1, 0xFA, 1}, {-16384, 0, 3, 0xFF, 0}, {-16384, 0, 0, 0xFF, 1},
+        {0, 16384, 2, 0xFA, 0}, {0, 16384, 2, 0xBA, 1}, {0, -16384, 2, 0xFA, 0}, {0, -16384, 2, 0x7A, 1}, {0, -16384, 2, 0x3A, 1},
+        {16384, 16384, 2, 0xBA, 1}, {16384, 16384, 1, 0xFA, 1}, {16384, 16384, 1, 0xBA, 2}, {-16384, -16384, 1, 0x3F, 2},
+        {16384, -16384, 2, 0xFA, 0}, {0, 0, 1, 0xBA, 0},
+    };
+    for (size_t i = 0; i < 2 * sizeof rows / sizeof *rows; i++) {
+        int b[2] = {rows[i / 2].low, rows[i / 2].high};
+        enum call c = i % 2 ? DECODE : HEAR;
+        mode = rows[i / 2].mode;
+        lend_good(PUT, 1);
+        memcpy(state.at, reset, STATE);
+        for (int band = 0; band < 2; band++) {
+            put_value(state.at + 1 + 40 * band + 10, b[band]);
+            put_value(state.at + 1 + 40 * band + 22, 16384);
+        }
+        octets.at[0] = rows[i / 2].octet;
+        if (attempt("a worked count", c) != 0 || counted != (c == HEAR ? rows[i / 2].count : 0))
+            fault("a worked count of signals came out otherwise", i, rows[i / 2].count);
+        for (int band = 0; band < 2 && c == HEAR; band++)
+            if (b[band] && value(band ? high.at : low.at) != (b[band] < 0 ? -16384 : 16383))
+                fault("a worked signal is not at the end", i, 0);
+    }
+}
+
+/* What comes out of the filters where all that goes in is at one end: it is at that end too, since the even coefficients add up to 4096
+ * and so do the odd ones. Where 0 stands in the place that meets a coefficient of -11, it is beyond. So XL of equal samples, XH of
+ * samples in turn at both ends, and the samples of equal pairs; of these the oldest meets -11 and 3, and the newest 3 and -11. The octet
+ * FA in mode 2 is a pair of zeros. */
+static void filter_counts(void)
+{
+    static const uint8_t reset[2][STATE] = {ZELCANDRY_CODER_RESET, ZELCANDRY_DECODER_RESET};
+    static const struct { enum call c; int one, other, zero, newest; size_t count; } rows[] = {
+        {CODE, 16383, 16383, -1, 1, 0}, {CODE, 16383, 16383, 1, 1, 1}, {CODE, -16384, -16384, -1, 1, 0}, {CODE, -16384, -16384, 1, 1, 1},
+        {CODE, 16383, -16384, -1, 1, 0}, {CODE, 16383, -16384, 1, 1, 1}, {CODE, -16384, 16383, -1, 1, 0}, {CODE, -16384, 16383, 1, 1, 1},
+        {JOIN, 16383, 0, -1, 1, 0}, {JOIN, 16383, 0, 0, 1, 1}, {JOIN, 16383, 0, 0, 0, 2}, {JOIN, 16383, 0, -1, 0, 1},
+        {JOIN, -16384, 0, -1, 1, 0}, {JOIN, -16384, 0, 0, 1, 1}, {JOIN, -16384, 0, 0, 0, 2}, {JOIN, 0, 16383, -1, 1, 0},
+        {JOIN, 0, 16383, 11, 1, 1}, {JOIN, 0, 16383, 11, 0, 2}, {DECODE, 16383, 0, 0, 0, 2}, {DECODE, -16384, 0, -1, 0, 1},
+        {DECODE, 0, 16383, 11, 0, 2}, {DECODE, 0, 0, -1, 0, 0},
+    };
+    for (size_t i = 0; i < sizeof rows / sizeof *rows; i++) {
+        enum call c = rows[i].c;
+        int one = rows[i].one, other = rows[i].other;
+        mode = 2;
+        lend_good(PUT, 1);
+        memcpy(state.at, reset[c != CODE], STATE);
+        for (int k = 0; k < 22; k++)
+            put_value(state.at + BANDS + 2 * k, k == rows[i].zero ? 0 : (c == CODE ? k % 2 : k < PAIRS) ? one : other);
+        if (c == CODE) {
+            put_value(samples.at, other);
+            put_value(samples.at + 2, one);
+        }
+        put_value(low.at, rows[i].newest ? one : 0);
+        put_value(high.at, rows[i].newest ? other : 0);
+        if (c == DECODE)
+            octets.at[0] = 0xFA;
+        if (attempt("a worked count", c) != 0 || counted != rows[i].count)
+            fault("a worked count came out otherwise", i, rows[i].count);
     }
 }
 
@@ -444,7 +612,8 @@ static void bad_pairs(size_t n)
         fault("both ends of the range were refused", 0, 0);
 }
 
-/* The two steps in turn are the one call: the same samples and the same state. The second is cut in another place than the first. */
+/* The two steps in turn are the one call: the same samples, the same state and the same count of samples. The second is cut in another
+ * place than the first. */
 static void in_turn(size_t n, size_t cut)
 {
     static uint8_t kept[STATE], heard[ROOM], left[STATE];
@@ -452,17 +621,21 @@ static void in_turn(size_t n, size_t cut)
         lend_good(DECODE, n);
         memcpy(kept, state.at, STATE);
         attempt("in one", DECODE);
+        size_t in_one = counted;
         memcpy(left, state.at, STATE);
         memcpy(heard, samples.at, 4 * n);
         memcpy(state.at, kept, STATE);
         attempt("the first step", HEAR);
         size_t rest = n - cut;
         memset(samples.at, 0xA5, 4 * n);
-        if (join(state.at, STATE, low.at, 2 * cut, high.at, 2 * cut, samples.at, 4 * cut)
-            || join(state.at, STATE, low.at + 2 * cut, 2 * rest, high.at + 2 * cut, 2 * rest, samples.at + 4 * cut, 4 * rest))
+        uint64_t a = join(state.at, STATE, low.at, 2 * cut, high.at, 2 * cut, samples.at, 4 * cut);
+        uint64_t b = join(state.at, STATE, low.at + 2 * cut, 2 * rest, high.at + 2 * cut, 2 * rest, samples.at + 4 * cut, 4 * rest);
+        if (zelcandry_number(a) || zelcandry_number(b))
             fault("the second step is refused", n, cut);
         if (memcmp(state.at, left, STATE) || memcmp(samples.at, heard, 4 * n))
             fault("the two steps in turn are not the one", n, cut);
+        if (zelcandry_limited(a) + zelcandry_limited(b) != in_one)
+            fault("the two steps in turn have another count", zelcandry_limited(a) + zelcandry_limited(b), in_one);
     }
 }
 
@@ -514,6 +687,19 @@ static size_t stack_used(void (*by)(void))
     return sizeof stack - left;
 }
 
+/* What only the whole run can say: the stack, and that each call was seen to limit something, and to limit nothing. */
+static void report(void)
+{
+    size_t used = stack_used(deepest), joined = stack_used(joining);
+    if (used > 40000 || joined > 72000)
+        fault("stack", used, joined);
+    for (int c = CODE; c <= JOIN; c++)
+        if (lit[c] < 10 || dark[c] < 10)
+            fault("few calls limited something, or few did not", lit[c], dark[c]);
+    printf("host: %lu calls as they must be; stack %lu bytes, %lu of join; limited in %lu calls of code, %lu of decode, %lu of hear, "
+           "%lu of join\n", calls, (unsigned long)used, (unsigned long)joined, lit[CODE], lit[DECODE], lit[HEAR], lit[JOIN]);
+}
+
 int main(void)
 {
     static const size_t sizes[] = {0, 1, 160, 7999, 8000, 8001};
@@ -535,6 +721,8 @@ int main(void)
             modes((enum call)c);
         sums();
         step_sums();
+        heard_counts();
+        filter_counts();
         for (int way = 0; way < 3; way++)
             orders(way);
         bad_samples(160);
@@ -547,9 +735,6 @@ int main(void)
     }
     at_end = 0;
     nulls();
-    size_t used = stack_used(deepest), joined = stack_used(joining);
-    if (used > 40000 || joined > 72000)
-        fault("stack", used, joined);
-    printf("host: %lu calls as they must be; stack %lu bytes, %lu of join\n", calls, (unsigned long)used, (unsigned long)joined);
+    report();
     return 0;
 }

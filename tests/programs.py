@@ -2,6 +2,7 @@
 import collections
 import os
 import pathlib
+import re
 import subprocess
 import sys
 import tempfile
@@ -29,6 +30,11 @@ def ours(program, *words, given=b""):
 
 def second(program, *words, given=b""):
     return run(["timeout", str(SECONDS), SECOND, program, *words], given)
+
+
+def lamp(done):
+    """How many sums a desk says that it limited, for each turn in which there were any."""
+    return [int(count) for count in re.findall(r"^overload: ([1-9]\d*) sums limited$", done.said, re.M)]
 
 
 def woven(ports):

@@ -1,16 +1,37 @@
-//! The calls against the second codec: octets, samples, signals, data, refusals, and what of the states
-//! both have, over streams cut in many ways with refused calls among the others.
+//! The calls against the second codec: octets, samples, signals, data, counts of what was limited,
+//! refusals, and what of the states both have, over streams cut in many ways with refused calls among
+//! the others. Each kind of count is met above 0, and as 0 too.
 
 mod common;
 
 use common::{bytes, cuts, dice, of_octets, of_samples, samples};
 use second::cue::{put_in, take_out};
 use second::{Coder, Decoder, Wrong};
-use zelcandry::{code, decode, hear, join, put, take, Refusal, CODER_RESET, DECODER_RESET};
+use zelcandry::{c, code, decode, hear, join, put, take, Refusal, CODER_RESET, DECODER_RESET};
 
 /// The second codec's answer in our words.
-fn told(answer: Result<(), second::Refusal>) -> Result<(), Refusal> {
+fn told<T>(answer: Result<T, second::Refusal>) -> Result<T, Refusal> {
     answer.map_err(|r| Refusal { number: r.number, index: r.index })
+}
+
+/// How many calls limited something, and how many nothing.
+#[derive(Default)]
+struct Met(usize, usize);
+
+impl Met {
+    /// Takes note of a call that was done.
+    fn note(&mut self, limited: usize) {
+        if limited > 0 {
+            self.0 += 1;
+        } else {
+            self.1 += 1;
+        }
+    }
+
+    /// Holds that there were more than a few of both.
+    fn both(&self) {
+        assert!(self.0 > 20 && self.1 > 20, "{} calls limited, {} did not", self.0, self.1);
+    }
 }
 
 /// Coefficients and factors of both bands stand in the state where its layout says.
@@ -23,8 +44,8 @@ fn same_bands(state: &[u8], bands: [&second::band::Band; 2]) {
     }
 }
 
-/// One coding call of both, and the octets that they leave.
-fn coded(state: &mut [u8], other: &mut Coder, given: &[i16], n: usize) -> Result<(), Refusal> {
+/// One coding call of both, and the octets that they leave. Their count is the same.
+fn coded(state: &mut [u8], other: &mut Coder, given: &[i16], n: usize) -> Result<usize, Refusal> {
     let mut lent = dice(n as u64, n);
     let mut theirs = lent.clone();
     let answer = code(state, &bytes(given), &mut lent);
@@ -35,6 +56,7 @@ fn coded(state: &mut [u8], other: &mut Coder, given: &[i16], n: usize) -> Result
 
 #[test]
 fn coding() {
+    let mut met = Met::default();
     for seed in 0..4 {
         for (kind, stream) in of_samples(seed, 40000) {
             let (mut state, mut other) = (CODER_RESET, Coder::new(Wrong::None));
@@ -52,23 +74,24 @@ fn coding() {
                 }
                 coded(&mut state, &mut other, given, n + 1).unwrap_err();
                 assert_eq!(state, before, "{kind:?} {seed} {at}: a refused call changed the state");
-                coded(&mut state, &mut other, given, n).unwrap();
+                met.note(coded(&mut state, &mut other, given, n).unwrap());
                 same_bands(&state, other.bands());
                 let past = &stream[at.saturating_sub(22)..at];
                 assert_eq!(state[125 - 2 * past.len()..], bytes(past), "{kind:?} {seed} {at}");
             }
         }
     }
+    met.both();
 }
 
-/// One decoding call of both, and the samples that they leave.
+/// One decoding call of both, and the samples that they leave. Their count is the same.
 fn heard(
     state: &mut [u8],
     other: &mut Decoder,
     mode: u8,
     given: &[u8],
     n: usize,
-) -> Result<(), Refusal> {
+) -> Result<usize, Refusal> {
     let mut lent = dice(n as u64, 2 * n);
     let mut theirs = samples(&lent);
     let answer = decode(state, mode, given, &mut lent);
@@ -79,6 +102,7 @@ fn heard(
 
 #[test]
 fn decoding() {
+    let mut met = Met::default();
     for seed in 0..4 {
         for (kind, stream) in of_octets(seed, 20000) {
             let (mut state, mut other) = (DECODER_RESET, Decoder::new(Wrong::None));
@@ -91,7 +115,7 @@ fn decoding() {
                 heard(&mut state, &mut other, roll | 4, given, 2 * n).unwrap_err();
                 heard(&mut state, &mut other, roll % 4, given, 2 * n + 1).unwrap_err();
                 assert_eq!(state, before, "{kind:?} {seed} {at}: a refused call changed the state");
-                heard(&mut state, &mut other, roll % 4, given, 2 * n).unwrap();
+                met.note(heard(&mut state, &mut other, roll % 4, given, 2 * n).unwrap());
                 same_bands(&state, other.bands());
                 for octet in given {
                     let pair = signals.sub_bands(*octet, (roll % 4).max(1));
@@ -104,16 +128,17 @@ fn decoding() {
             assert_eq!(at, stream.len());
         }
     }
+    met.both();
 }
 
-/// One call of the first step of both, and the signals that they leave.
+/// One call of the first step of both, and the signals that they leave, with the count of both.
 fn signals(
     state: &mut [u8],
     other: &mut Decoder,
     mode: u8,
     given: &[u8],
     n: [usize; 2],
-) -> Result<[Vec<i16>; 2], Refusal> {
+) -> Result<([Vec<i16>; 2], usize), Refusal> {
     let mut lent = n.map(|n| dice(n as u64, 2 * n));
     let mut theirs = lent.clone().map(|bytes| samples(&bytes));
     let before = state[81..].to_vec();
@@ -122,17 +147,17 @@ fn signals(
     assert_eq!(answer, told(other.hear(mode, given, their_low, their_high)));
     assert_eq!(lent, theirs.clone().map(|signals| bytes(&signals)));
     assert_eq!(state[81..], before, "hearing moved the past pairs");
-    answer.map(|()| theirs)
+    answer.map(|limited| (theirs, limited))
 }
 
-/// One call of the second step of both, and the samples that they leave.
+/// One call of the second step of both, and the samples that they leave, with the count of both.
 fn joined(
     state: &mut [u8],
     other: &mut Decoder,
     low: &[i16],
     high: &[i16],
     n: usize,
-) -> Result<Vec<i16>, Refusal> {
+) -> Result<(Vec<i16>, usize), Refusal> {
     let mut lent = dice(n as u64, 2 * n);
     let mut theirs = samples(&lent);
     let before = state[..81].to_vec();
@@ -140,7 +165,7 @@ fn joined(
     assert_eq!(answer, told(other.join(low, high, &mut theirs)));
     assert_eq!(lent, bytes(&theirs));
     assert_eq!(state[..81], before, "joining moved a band");
-    answer.map(|()| theirs)
+    answer.map(|limited| (theirs, limited))
 }
 
 /// A stream of octets in calls, each with a roll of the dice.
@@ -160,6 +185,7 @@ fn all_signals(
     other: &mut Decoder,
     stream: &[u8],
     seed: u64,
+    met: &mut Met,
 ) -> [Vec<i16>; 2] {
     let mut all = [vec![], vec![]];
     for (given, roll) in calls(stream, seed) {
@@ -168,7 +194,8 @@ fn all_signals(
         signals(state, other, roll % 4, given, [n + 1, n]).unwrap_err();
         signals(state, other, roll % 4, given, [n, n + 1]).unwrap_err();
         assert_eq!(*state, before, "a refused call changed the state");
-        let got = signals(state, other, roll % 4, given, [n; 2]).unwrap();
+        let (got, limited) = signals(state, other, roll % 4, given, [n; 2]).unwrap();
+        met.note(limited);
         same_bands(state, other.bands());
         all.iter_mut().zip(got).for_each(|(all, got)| all.extend(got));
     }
@@ -181,6 +208,7 @@ fn all_samples(
     other: &mut Decoder,
     stream: &[Vec<i16>; 2],
     seed: u64,
+    met: &mut Met,
 ) -> Vec<i16> {
     let mut all = vec![];
     for (turn, n) in cuts(stream[0].len(), seed).into_iter().enumerate() {
@@ -203,27 +231,32 @@ fn all_samples(
         joined(state, other, low, &[high, &[0]].concat(), 2 * n).unwrap_err();
         joined(state, other, &[low, &[0]].concat(), high, 2 * n).unwrap_err();
         assert_eq!(*state, before, "a refused call changed the state");
-        all.extend(joined(state, other, low, high, 2 * n).unwrap());
+        let (got, limited) = joined(state, other, low, high, 2 * n).unwrap();
+        met.note(limited);
+        all.extend(got);
     }
     all
 }
 
 #[test]
 fn steps() {
+    let (mut met_hearing, mut met_joining) = (Met::default(), Met::default());
     for seed in 0..2 {
         for (kind, stream) in of_octets(seed, 12000) {
             let (mut state, mut other) = (DECODER_RESET, Decoder::new(Wrong::None));
-            let mut pairs = all_signals(&mut state, &mut other, &stream, seed);
+            let mut pairs = all_signals(&mut state, &mut other, &stream, seed, &mut met_hearing);
             if seed % 2 == 1 {
                 pairs[0].iter_mut().for_each(|x| *x = -1 - *x);
                 pairs[1].rotate_left(5);
             }
-            all_samples(&mut state, &mut other, &pairs, seed + 9);
+            all_samples(&mut state, &mut other, &pairs, seed + 9, &mut met_joining);
             same_bands(&state, other.bands());
             let past = [&pairs[0], &pairs[1]].map(|x| x[x.len() - 11..].to_vec()).concat();
             assert_eq!(state[81..], bytes(&past), "{kind:?} {seed}: the past pairs");
         }
     }
+    met_hearing.both();
+    met_joining.both();
 }
 
 #[test]
@@ -231,16 +264,72 @@ fn steps_in_turn_are_decoding() {
     for (kind, stream) in of_octets(4, 12000) {
         let (mut state, mut one) = (DECODER_RESET, DECODER_RESET);
         let mut other = Decoder::new(Wrong::None);
-        let pairs = all_signals(&mut state, &mut other, &stream, 1);
-        let found = all_samples(&mut state, &mut other, &pairs, 2);
-        let mut heard = vec![];
+        let pairs = all_signals(&mut state, &mut other, &stream, 1, &mut Met::default());
+        let found = all_samples(&mut state, &mut other, &pairs, 2, &mut Met::default());
+        let (mut heard, mut limited) = (vec![], 0);
         for (given, roll) in calls(&stream, 1) {
             let mut lent = vec![0; 4 * given.len()];
-            decode(&mut one, roll % 4, given, &mut lent).unwrap();
+            limited += decode(&mut one, roll % 4, given, &mut lent).unwrap();
             heard.extend(lent);
         }
         assert_eq!((state, bytes(&found)), (one, heard), "{kind:?}");
+        assert_eq!(joining_counts(&pairs), limited, "{kind:?}: the counts");
     }
+}
+
+/// What joining counts of a stream of pairs from reset, in calls of 1000.
+fn joining_counts(pairs: &[Vec<i16>; 2]) -> usize {
+    let mut state = DECODER_RESET;
+    let calls = pairs[0].chunks(1000).zip(pairs[1].chunks(1000));
+    let count = |(low, high): (&[i16], &[i16])| {
+        join(&mut state, &bytes(low), &bytes(high), &mut vec![0; 4 * low.len()]).unwrap()
+    };
+    calls.map(count).sum()
+}
+
+/// The whole answers of the six calls, of which the wrapper shows parts: on octets, on samples and low
+/// signals that are all one value, and on data that fits.
+fn words(
+    coder: &mut [u8],
+    decoder: &mut [u8],
+    mode: u8,
+    octets: &mut [u8],
+    value: i16,
+) -> [u64; 6] {
+    let n = octets.len();
+    let mut given = bytes(&vec![value; 2 * n]);
+    let [mut low, mut high] = [bytes(&vec![value; n]), bytes(&vec![0; n])];
+    let mut data = vec![0x5A; n * usize::from(mode.clamp(2, 3) - 1) / 8];
+    let (c, d, o) = (coder.as_mut_ptr(), decoder.as_mut_ptr(), octets.as_mut_ptr());
+    let (x, l, h, b) = (given.as_mut_ptr(), low.as_mut_ptr(), high.as_mut_ptr(), data.as_mut_ptr());
+    let (cn, dn, bn) = (coder.len(), decoder.len(), data.len());
+    unsafe {
+        [
+            c::zelcandry_put(mode, o, n, b, bn),
+            c::zelcandry_take(mode, o, n, b, bn),
+            c::zelcandry_join(d, dn, l, 2 * n, h, 2 * n, x, 4 * n),
+            c::zelcandry_hear(d, dn, mode, o, n, l, 2 * n, h, 2 * n),
+            c::zelcandry_decode(d, dn, mode, o, n, x, 4 * n),
+            c::zelcandry_code(c, cn, x, 4 * n, o, n),
+        ]
+    }
+}
+
+#[test]
+fn only_calls_that_are_done_have_a_count() {
+    let octets = [[0x44; 400], [0x3A; 400]].concat();
+    let states = || (CODER_RESET.to_vec(), DECODER_RESET.to_vec());
+    let (mut coder, mut decoder) = states();
+    let done = words(&mut coder, &mut decoder, 2, &mut octets.clone(), 16383);
+    assert_eq!(done.map(|word| word as u32), [0; 6]);
+    assert_eq!(done.map(|word| word >> 32 > 0), [false, false, true, true, true, true]);
+    let (mut coder, mut decoder) = states();
+    let refused = words(&mut coder, &mut decoder, 9, &mut octets.clone(), 16384);
+    assert_eq!(refused, [1, 1, 4, 1, 1, 4]);
+    let short = words(&mut coder[1..], &mut decoder[1..], 3, &mut octets.clone(), 16383);
+    assert_eq!(short, [0, 0, 2, 2, 2, 2]);
+    let long = words(&mut coder, &mut decoder, 3, &mut vec![0x44; 8004], 16383);
+    assert_eq!(long, [3; 6]);
 }
 
 #[test]

@@ -3,6 +3,7 @@
 use crate::arith::sub;
 use crate::band::Band;
 use crate::filters::Transmit;
+use crate::lamp::{Before, Lamp};
 use crate::quantiser::{invqah, invqal, logsch, logscl, quanth, quantl, scaleh, scalel};
 use crate::{refused, Refusal, Wrong, MOST_OCTETS};
 
@@ -13,23 +14,19 @@ pub struct Coder {
     transmit: Transmit,
     low: Band,
     high: Band,
+    lamp: Lamp,
 }
 
 impl Coder {
     /// A coder at reset.
     pub fn new(wrong: Wrong) -> Coder {
-        let transmit = Transmit::reset(wrong);
-        Coder { wrong, transmit, low: Band::reset(32, wrong), high: Band::reset(8, wrong) }
+        let (transmit, lamp) = (Transmit::reset(wrong), Lamp::dark(wrong));
+        Coder { wrong, transmit, low: Band::reset(32, wrong), high: Band::reset(8, wrong), lamp }
     }
 
     /// The low and the high band.
     pub fn bands(&self) -> [&Band; 2] {
         [&self.low, &self.high]
-    }
-
-    /// The signals XL and XH of one more pair of samples.
-    pub fn sub_bands(&mut self, older: i32, newer: i32) -> (i32, i32) {
-        self.transmit.pair(older, newer)
     }
 
     /// The low sub-band coder: the word IL of the signal XL.
@@ -61,23 +58,25 @@ impl Coder {
         ih << 6 | il
     }
 
-    /// The octet of one pair of samples.
-    fn octet(&mut self, older: i32, newer: i32) -> u8 {
-        let (xl, xh) = self.sub_bands(older, newer);
-        self.of_signals(xl, xh)
+    /// The octet of one pair of samples into its place; XL and XH before LIMIT.
+    fn code(&mut self, pair: &[i16], octet: &mut u8) -> Before {
+        let before = self.transmit.pair(i32::from(pair[0]), i32::from(pair[1]));
+        let (xl, xh) = (self.transmit.signal(before.0), self.transmit.signal(before.1));
+        *octet = self.of_signals(xl, xh);
+        before
     }
 
-    /// Codes 2n samples into the n lent octets. Refusals in the order 3, 4.
-    pub fn encode(&mut self, samples: &[i16], octets: &mut [u8]) -> Result<(), Refusal> {
+    /// Codes 2n samples into the n lent octets. Gives the count of the signals
+    /// XL and XH that were limited. Refusals in the order 3, 4.
+    pub fn encode(&mut self, samples: &[i16], octets: &mut [u8]) -> Result<usize, Refusal> {
         if octets.len() > MOST_OCTETS || samples.len() != 2 * octets.len() {
             return refused(3);
         }
         if let Some(index) = samples.iter().position(|x| !(-16384..=16383).contains(x)) {
             return Err(Refusal { number: 4, index });
         }
-        for (octet, pair) in octets.iter_mut().zip(samples.chunks(2)) {
-            *octet = self.octet(i32::from(pair[0]), i32::from(pair[1]));
-        }
-        Ok(())
+        let pairs = octets.iter_mut().zip(samples.chunks(2));
+        let before: Vec<Before> = pairs.map(|(octet, pair)| self.code(pair, octet)).collect();
+        Ok(self.lamp.of_signals(&before))
     }
 }

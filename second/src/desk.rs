@@ -3,6 +3,7 @@
 //! filter is passed.
 
 use crate::arith::limit;
+use crate::lamp::{Before, Lamp};
 use crate::{mode_in_force, refused, Coder, Decoder, Refusal, Wrong};
 
 /// A desk and everything its ports have been given since reset.
@@ -11,6 +12,7 @@ pub struct Desk {
     wrong: Wrong,
     decoders: Vec<Decoder>,
     coders: Vec<Coder>,
+    lamp: Lamp,
 }
 
 /// Refusal 9 for a number of ports that no desk has; otherwise the number.
@@ -33,7 +35,7 @@ impl Desk {
     pub fn reset(ports: usize, wrong: Wrong) -> Result<Desk, Refusal> {
         let ports = number_of_ports(ports)?;
         let (decoders, coders) = (vec![Decoder::new(wrong); ports], vec![Coder::new(wrong); ports]);
-        Ok(Desk { wrong, decoders, coders })
+        Ok(Desk { wrong, decoders, coders, lamp: Lamp::dark(wrong) })
     }
 
     /// The mode in which a port's octet is decoded.
@@ -52,9 +54,15 @@ impl Desk {
         ports.map(|((decoder, octet), mode)| decoder.sub_bands(*octet, mode)).unzip()
     }
 
-    /// What a port is to hear of one band.
-    fn mixed(&self, port: usize, signals: &[i32]) -> i32 {
-        let (sum, own) = (sum_of_others(port, signals, self.wrong), signals[port]);
+    /// The sums of both bands that each port is to hear, before LIMIT.
+    fn sums(&self, low: &[i32], high: &[i32]) -> Vec<Before> {
+        let sum = |port, signals| sum_of_others(port, signals, self.wrong);
+        (0..low.len()).map(|port| (sum(port, low), sum(port, high))).collect()
+    }
+
+    /// What a port is to hear of one band, of its sum (only a wrong desk asks
+    /// for the port's own signal).
+    fn mixed(&self, sum: i32, own: i32) -> i32 {
         match self.wrong {
             Wrong::SumsUnlimited => sum,
             Wrong::TotalLimited => limit(limit(sum + own) - own),
@@ -62,21 +70,23 @@ impl Desk {
         }
     }
 
-    /// One octet of every port into the room for one octet to every port.
-    /// Refusals in the order 3, 1.
-    pub fn tick(&mut self, modes: &[u8], octets: &[u8], room: &mut [u8]) -> Result<(), Refusal> {
+    /// One octet of every port into the room for one octet to every port. Gives
+    /// the count of the sums that were limited. Refusals in the order 3, 1.
+    pub fn tick(&mut self, modes: &[u8], octets: &[u8], room: &mut [u8]) -> Result<usize, Refusal> {
         if [modes.len(), octets.len(), room.len()] != [self.coders.len(); 3] {
             return refused(3);
         }
         let modes: Result<Vec<u8>, Refusal> = modes.iter().map(|m| mode_in_force(*m)).collect();
         let (low, high) = self.signals(&modes?, octets);
+        let before = self.sums(&low, &high);
         for (port, octet) in room.iter_mut().enumerate() {
-            let (xl, xh) = (self.mixed(port, &low), self.mixed(port, &high));
+            let (xl, xh) = before[port];
+            let (xl, xh) = (self.mixed(xl, low[port]), self.mixed(xh, high[port]));
             *octet = self.coders[port].of_signals(xl, xh);
         }
         if self.wrong == Wrong::CodersExchanged {
             self.coders.swap(0, 1);
         }
-        Ok(())
+        Ok(self.lamp.of_signals(&before))
     }
 }

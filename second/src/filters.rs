@@ -2,6 +2,7 @@
 
 use crate::arith::limit;
 use crate::history::History;
+use crate::lamp::Before;
 use crate::tables::H;
 use crate::Wrong;
 
@@ -33,17 +34,21 @@ impl Transmit {
         (self.accumulate(0, j), self.accumulate(1, j))
     }
 
-    /// LOWT and HIGHT: the signals XL and XH after one more pair of samples.
-    pub fn pair(&mut self, older: i32, newer: i32) -> (i32, i32) {
+    /// LOWT and HIGHT up to LIMIT: what XL and XH are made of after one more
+    /// pair of samples.
+    pub fn pair(&mut self, older: i32, newer: i32) -> Before {
         self.samples.push(older);
         self.samples.push(newer);
         let (xa, xb) = self.accumulators();
-        let xl = (xa + xb).div_euclid(8192);
-        let xh = (xa - xb).div_euclid(8192);
+        ((xa + xb).div_euclid(8192), (xa - xb).div_euclid(8192))
+    }
+
+    /// XL or XH, of its value before LIMIT.
+    pub fn signal(&self, before: i32) -> i32 {
         if self.wrong == Wrong::TransmitUnlimited {
-            return (xl, xh);
+            return before;
         }
-        (limit(xl), limit(xh))
+        limit(before)
     }
 }
 
@@ -77,25 +82,24 @@ impl Receive {
         (0..12).map(|i| H[2 * i + 1] * (self.low.before(n, i) + self.high.before(n, i))).sum()
     }
 
-    /// One output sample from its sum.
-    fn output(&self, sum: i32) -> i32 {
-        let value = sum.div_euclid(4096);
-        if self.wrong == Wrong::ReceiveWraps {
-            return i32::from(value as i16);
-        }
-        limit(value)
-    }
-
-    /// SELECT: the two samples XOUT1, XOUT2 after one more pair of signals.
-    pub fn pair(&mut self, rl: i32, rh: i32) -> (i32, i32) {
+    /// SELECT up to LIMIT: what the samples XOUT1, XOUT2 are made of after one
+    /// more pair of signals.
+    pub fn pair(&mut self, rl: i32, rh: i32) -> Before {
         self.low.push(rl);
         self.high.push(rh);
         let n = self.low.len() - 1;
-        let xout1 = self.output(self.accumc(n));
-        let xout2 = self.output(self.accumd(n));
+        let [first, second] = [self.accumc(n), self.accumd(n)].map(|sum| sum.div_euclid(4096));
         if self.wrong == Wrong::PhasesExchanged {
-            return (xout2, xout1);
+            return (second, first);
         }
-        (xout1, xout2)
+        (first, second)
+    }
+
+    /// An output sample, of its value before LIMIT.
+    pub fn sample(&self, before: i32) -> i16 {
+        if self.wrong == Wrong::ReceiveWraps {
+            return before as i16;
+        }
+        limit(before) as i16
     }
 }

@@ -2,8 +2,9 @@
 //!
 //! It takes another route wherever there is one: it keeps the signals since
 //! reset and looks back at them by index, reads code words from the printed
-//! rows, works the scale factor out of the 32-entry table, and finds a block's
-//! check by long division. `Wrong` switches on errors that must be told apart.
+//! rows, works the scale factor out of the 32-entry table, finds a block's check
+//! by long division, and counts what was limited by values kept from before
+//! that. `Wrong` switches on errors that must be told apart.
 
 pub mod arith;
 pub mod band;
@@ -15,6 +16,7 @@ pub mod decoder;
 pub mod desk;
 pub mod filters;
 pub mod history;
+pub mod lamp;
 pub mod listing;
 pub mod material;
 pub mod quantiser;

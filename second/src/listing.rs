@@ -34,8 +34,10 @@ fn line(decoder: &mut Decoder, block: &Block) -> String {
     let Block { take, number, mode, octets } = *block;
     let count = octets.len();
     let mut samples = vec![0; 2 * count];
-    decoder.decode(mode, octets, &mut samples).expect("a block that was read can be decoded");
-    format!("{take} {number} {mode} {count} {} {}\n", samples[0], samples[2 * count - 1])
+    let limited = decoder.decode(mode, octets, &mut samples);
+    let limited = limited.expect("a block that was read can be decoded");
+    let ends = format!("{} {}", samples[0], samples[2 * count - 1]);
+    format!("{take} {number} {mode} {count} {ends} {limited}\n")
 }
 
 /// The lines of the listing, and the line of the refusal that ends it.

@@ -134,8 +134,8 @@ fn heard(inputs: &[u16], mode: u8, wrong: Wrong) -> Vec<u16> {
             return RESET;
         }
         let (ih, il) = ((input >> 14) as u8, (input >> 8 & 63) as u8);
-        let signal = if mode == 0 { decoder.decode_high(ih) } else { decoder.decode_low(il, mode) };
-        x_word(signal as i16)
+        let heard = if mode == 0 { decoder.decode_high(ih) } else { decoder.decode_low(il, mode) };
+        x_word(heard.signal as i16)
     };
     inputs.iter().map(one).collect()
 }

@@ -1,6 +1,6 @@
 //! Errors that sound right for a while, each one switch.
 
-/// Which error the codec, the listing, a step or the desk makes on purpose.
+/// Which error the codec, the listing, a step, the desk or a lamp makes on purpose.
 #[derive(Clone, Copy, Debug, PartialEq, Eq, Default)]
 pub enum Wrong {
     /// The right codec.
@@ -78,6 +78,20 @@ pub enum Wrong {
     FirstMode,
     /// The first two ports of the desk exchange their coders at every tick.
     CodersExchanged,
+    /// The lamp also counts values at the ends of the range.
+    EndsCounted,
+    /// The lamp counts on from call to call.
+    CountsKept,
+    /// The lamp does not count high signals.
+    HighUncounted,
+    /// The lamp counts low signals twice.
+    LowTwice,
+    /// The lamp counts a pair once, also where both its values were limited.
+    PairsOnce,
+    /// The first step's lamp counts RLT of the loop in the place of YL.
+    LoopCounted,
+    /// The lamp of decoding in one counts heard signals beside the samples.
+    HeardCounted,
 }
 
 /// The errors of the codec.
@@ -132,8 +146,19 @@ pub const DESK: [Wrong; 7] = [
     Wrong::CodersExchanged,
 ];
 
+/// The errors of the lamp, over the right codec, listing, steps and desk.
+pub const LAMP: [Wrong; 7] = [
+    Wrong::EndsCounted,
+    Wrong::CountsKept,
+    Wrong::HighUncounted,
+    Wrong::LowTwice,
+    Wrong::PairsOnce,
+    Wrong::LoopCounted,
+    Wrong::HeardCounted,
+];
+
 /// The error of that name, as it is spelt above.
 pub fn by_name(name: &str) -> Option<Wrong> {
-    let errors = CODEC.into_iter().chain(LISTING).chain(STEPS).chain(DESK);
+    let errors = CODEC.into_iter().chain(LISTING).chain(STEPS).chain(DESK).chain(LAMP);
     errors.chain([Wrong::None]).find(|wrong| format!("{wrong:?}") == name)
 }

@@ -7,7 +7,7 @@ use second::material::{self, Kind, Stream};
 use second::{cue, Coder, Decoder, Refusal, Wrong};
 
 /// What a call gives back when it refuses.
-fn refusal(number: u8, index: usize) -> Result<(), Refusal> {
+fn refusal<T>(number: u8, index: usize) -> Result<T, Refusal> {
     Err(Refusal { number, index })
 }
 
@@ -25,7 +25,7 @@ fn coding_refuses_in_its_order() {
     assert_eq!(coder.encode(&[20000], &mut [0]), refusal(3, 0));
     assert_eq!(coder.encode(&vec![0; 16002], &mut vec![0; 8001]), refusal(3, 0));
     assert_eq!(coder.encode(&[0, 0, 1, -16385], &mut [0; 2]), refusal(4, 3));
-    assert_eq!(coder.encode(&[], &mut []), Ok(()));
+    assert_eq!(coder.encode(&[], &mut []), Ok(0));
     let mut octets = [0];
     coder.encode(&[0, 0], &mut octets).unwrap();
     assert_eq!(octets, [0xfa]);
@@ -37,7 +37,7 @@ fn decoding_refuses_in_its_order() {
     assert_eq!(decoder.decode(4, &[], &mut []), refusal(1, 0));
     assert_eq!(decoder.decode(3, &[], &mut [0]), refusal(3, 0));
     assert_eq!(decoder.decode(3, &vec![0; 8001], &mut vec![0; 16002]), refusal(3, 0));
-    assert_eq!(decoder.decode(3, &[], &mut []), Ok(()));
+    assert_eq!(decoder.decode(3, &[], &mut []), Ok(0));
 }
 
 #[test]

@@ -70,7 +70,7 @@ fn a_desk_has_two_to_eight_ports() {
 }
 
 /// What a tick that is refused answers; nothing is written.
-fn refused(desk: &mut Desk, modes: &[u8], octets: usize, room: usize) -> Result<(), Refusal> {
+fn refused(desk: &mut Desk, modes: &[u8], octets: usize, room: usize) -> Result<usize, Refusal> {
     let mut lent = vec![77; room];
     let answer = desk.tick(modes, &vec![0x5a; octets], &mut lent);
     assert_eq!(lent, vec![77; room]);
@@ -108,7 +108,7 @@ fn a_refused_tick_has_not_been() {
             let given: Vec<u8> = octets.iter().map(|octets| octets[tick]).collect();
             let mut room = vec![0; ports];
             try_refusals(&mut desk, ports);
-            assert_eq!(desk.tick(&vec![2; ports], &given, &mut room), Ok(()));
+            assert!(desk.tick(&vec![2; ports], &given, &mut room).is_ok());
             assert_eq!(room, sent.iter().map(|sent| sent[tick]).collect::<Vec<u8>>());
         }
     }

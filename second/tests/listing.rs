@@ -52,8 +52,9 @@ fn a_take_is_one_run_from_reset() {
     for (number, mode, octet) in [(4, 1, 0x20), (9, 3, 0xdf), (8, 2, 0x04)] {
         blocks.extend(block(4000000000, number, mode, &[octet; 480]));
         let mut heard = [0; 960];
-        decoder.decode(mode, &[octet; 480], &mut heard).unwrap();
-        lines += &format!("4000000000 {number} {mode} 480 {} {}\n", heard[0], heard[959]);
+        let limited = decoder.decode(mode, &[octet; 480], &mut heard).unwrap();
+        let ends = format!("{} {}", heard[0], heard[959]);
+        lines += &format!("4000000000 {number} {mode} 480 {ends} {limited}\n");
     }
     assert_eq!(right(&blocks), lines);
 }
@@ -62,11 +63,11 @@ fn a_take_is_one_run_from_reset() {
 fn block_0_and_another_take_begin_afresh_and_nothing_else() {
     let of = |take, number| block(take, number, 1, &[0xfa]);
     let lines = |one: Vec<u8>, two: Vec<u8>| right(&[one, two].concat());
-    assert_eq!(lines(of(7, 3), of(7, 0)), "7 3 1 1 0 -1\n7 0 1 1 0 -1\n");
-    assert_eq!(lines(of(7, 3), of(8, 4)), "7 3 1 1 0 -1\n8 4 1 1 0 -1\n");
-    assert_eq!(lines(of(7, 3), of(8, 0)), "7 3 1 1 0 -1\n8 0 1 1 0 -1\n");
-    assert_eq!(lines(of(7, 3), of(7, 4)), "7 3 1 1 0 -1\n7 4 1 1 -1 0\n");
-    assert_eq!(lines(of(7, 3), of(7, 1)), "7 3 1 1 0 -1\n7 1 1 1 -1 0\n");
+    assert_eq!(lines(of(7, 3), of(7, 0)), "7 3 1 1 0 -1 0\n7 0 1 1 0 -1 0\n");
+    assert_eq!(lines(of(7, 3), of(8, 4)), "7 3 1 1 0 -1 0\n8 4 1 1 0 -1 0\n");
+    assert_eq!(lines(of(7, 3), of(8, 0)), "7 3 1 1 0 -1 0\n8 0 1 1 0 -1 0\n");
+    assert_eq!(lines(of(7, 3), of(7, 4)), "7 3 1 1 0 -1 0\n7 4 1 1 -1 0 0\n");
+    assert_eq!(lines(of(7, 3), of(7, 1)), "7 3 1 1 0 -1 0\n7 1 1 1 -1 0 0\n");
 }
 
 #[test]

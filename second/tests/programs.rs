@@ -2,7 +2,7 @@
 
 use second::compare::{decode_all, encode_all, hear_all, join_all, mix_all};
 use second::material::{self, Kind, Stream};
-use second::Wrong;
+use second::{Desk, Wrong};
 use std::io::Write;
 use std::process::{Command, Stdio};
 
@@ -118,20 +118,48 @@ fn ticks(ports: &[Vec<u8>]) -> Vec<u8> {
     (0..ports[0].len()).flat_map(|tick| ports.iter().map(move |octets| octets[tick])).collect()
 }
 
+/// The lines of a desk's lamp: one for each 1000 ticks in which sums were limited.
+fn lamp(ports: &[Vec<u8>], modes: &[u8]) -> String {
+    let mut desk = Desk::reset(ports.len(), Wrong::None).unwrap();
+    let given = ticks(ports);
+    let tick = |tick| desk.tick(modes, tick, &mut vec![0; ports.len()]).unwrap();
+    let counts: Vec<usize> = given.chunks(ports.len()).map(tick).collect();
+    let turns = counts.chunks(1000).map(|turn| turn.iter().sum::<usize>()).filter(|sum| *sum > 0);
+    turns.map(|sum| format!("overload: {sum} sums limited\n")).collect()
+}
+
+#[test]
+fn a_desk_says_of_each_turn_how_many_sums_were_limited() {
+    let port = |kind, seed| match material::stream(kind, seed, 2500) {
+        Stream::Samples(samples) => encode_all(&samples, Wrong::None),
+        Stream::Octets(octets) => octets,
+    };
+    let loud: Vec<Vec<u8>> = (0..3).map(|seed| port(Kind::Rhythm, seed)).collect();
+    let quiet = vec![vec![0xfa; 2500]; 3];
+    let words = ["desk", "3", "1", "2", "3"];
+    assert_eq!(lamp(&loud, &[1, 2, 3]).lines().count(), 3);
+    assert_eq!(run(&words, &ticks(&loud)).1, lamp(&loud, &[1, 2, 3]));
+    assert_eq!(run(&words, &ticks(&quiet)).1, "");
+    let late: Vec<Vec<u8>> = loud.iter().map(|port| [&[0xfa; 1000], &port[..1]].concat()).collect();
+    assert_eq!(run(&words, &ticks(&late)).1, lamp(&late, &[1, 2, 3]));
+    let cut = [ticks(&loud), vec![0]].concat();
+    assert_eq!(run(&words, &cut).1, lamp(&loud, &[1, 2, 3]) + "refused 3 0\n");
+}
+
 #[test]
 fn ports_are_mixed_up_to_the_last_whole_tick() {
     let port = |first: usize| encode_all(&noise(20007)[first..first + 20000], Wrong::None);
     let ports: Vec<Vec<u8>> = (0..8).map(port).collect();
     let words = ["desk", "8", "0", "1", "2", "3", "3", "2", "1", "0"];
     let mixed = |wrong| ticks(&mix_all(&ports, &[vec![0, 1, 2, 3, 3, 2, 1, 0]], wrong));
-    let sent = mixed(Wrong::None);
-    assert_eq!(run(&words, &ticks(&ports)), (sent.clone(), String::new()));
+    let (sent, said) = (mixed(Wrong::None), lamp(&ports, &[0, 1, 2, 3, 3, 2, 1, 0]));
+    assert_eq!(run(&words, &ticks(&ports)), (sent.clone(), said.clone()));
     let wrong = [&words[..], &["SumsUnlimited"]].concat();
-    assert_eq!(run(&wrong, &ticks(&ports)), (mixed(Wrong::SumsUnlimited), String::new()));
+    assert_eq!(run(&wrong, &ticks(&ports)), (mixed(Wrong::SumsUnlimited), said.clone()));
     assert_ne!(run(&wrong, &ticks(&ports)).0, sent);
     for surplus in 1..8 {
         let input = [ticks(&ports), vec![0; surplus]].concat();
-        assert_eq!(run(&words, &input), (sent.clone(), "refused 3 0\n".to_string()));
+        assert_eq!(run(&words, &input), (sent.clone(), said.clone() + "refused 3 0\n"));
     }
     assert_eq!(run(&words, &[]), (vec![], String::new()));
 }

@@ -7,7 +7,7 @@ use second::tables::H;
 use second::{wrong, Decoder, Refusal, Wrong};
 
 /// What a call gives back when it refuses.
-fn refusal(number: u8, index: usize) -> Result<(), Refusal> {
+fn refusal<T>(number: u8, index: usize) -> Result<T, Refusal> {
     Err(Refusal { number, index })
 }
 
@@ -35,7 +35,7 @@ fn heard(mode: u8, octets: usize, low: usize, high: usize) -> Result<(), Refusal
     let answer = decoder.hear(mode, &random(2, octets), &mut first, &mut second);
     let same = (decoder, first, second) == (before, vec![77; low], vec![78; high]);
     assert_eq!(same, answer.is_err() || octets == 0, "{mode} {octets} {low} {high}");
-    answer
+    answer.map(|_| ())
 }
 
 /// What a used decoder answers to a second step; where it refuses, nothing has changed.
@@ -45,7 +45,7 @@ fn joined(low: &[i16], high: &[i16], samples: usize) -> Result<(), Refusal> {
     let answer = decoder.join(low, high, &mut lent);
     let same = (decoder, lent) == (before, vec![77; samples]);
     assert_eq!(same, answer.is_err() || low.is_empty(), "{} {samples}", low.len());
-    answer
+    answer.map(|_| ())
 }
 
 #[test]
@@ -250,7 +250,7 @@ fn errors_of_the_steps_are_told_where_decoding_is_right() {
 
 /// What a refused second step answers, and the samples of the same pairs after
 /// it without the bad ones.
-fn refused_and_joined(wrong: Wrong) -> (Result<(), Refusal>, Vec<i16>) {
+fn refused_and_joined(wrong: Wrong) -> (Result<usize, Refusal>, Vec<i16>) {
     let mut decoder = used(wrong);
     let mut samples = vec![0; 10];
     let answer = decoder.join(&[5, 6, 7, 8, 16384], &[5, 6, 7, 16384, 8], &mut samples);

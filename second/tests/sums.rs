@@ -7,7 +7,7 @@ use second::quantiser::{logscl, quantl, scaleh, scalel};
 use second::{cue, Coder, Decoder, Refusal, Wrong};
 
 /// What a call gives back when it refuses.
-fn refusal(number: u8, index: usize) -> Result<(), Refusal> {
+fn refusal<T>(number: u8, index: usize) -> Result<T, Refusal> {
     Err(Refusal { number, index })
 }
 
@@ -103,7 +103,7 @@ fn sum_11_samples_outside_the_range() {
     let mut coder = Coder::new(Wrong::None);
     assert_eq!(coder.encode(&[16384, 0], &mut octets), refusal(4, 0));
     assert_eq!(octets, [0x55]);
-    assert_eq!(coder.encode(&[16383, -16384], &mut octets), Ok(()));
+    assert_eq!(coder.encode(&[16383, -16384], &mut octets), Ok(0));
 }
 
 #[test]
@@ -133,5 +133,5 @@ fn sum_14_blocks_that_are_refused() {
 
 #[test]
 fn sum_15_one_block() {
-    assert_eq!(listing(&one_block(), Wrong::None), "7 0 1 1 0 -1\n");
+    assert_eq!(listing(&one_block(), Wrong::None), "7 0 1 1 0 -1 0\n");
 }

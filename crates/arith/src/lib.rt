@@ -3,7 +3,8 @@ ghost use mathlib.Core.Path.{_≡_};
 ghost use mathlib.Core.Bool.{cond};
 ghost use lib.Signed.{mag};
 ghost use Rattle.laws.specs.Clamp.{clamp};
-ghost use Rattle.g722.specs.Arithmetic.{add, sub, mul, limit, sameSign, within, equal};
+ghost use Rattle.g722.specs.Arithmetic.{add, sub, mul, sameSign, within, equal, limited, one, changes};
+use g722::Limited;
 
 // The same number in 32 bits.
 pub fn wide(x: i16) -> i32
@@ -46,11 +47,33 @@ pub fn mul(a: i16, b: i16) -> i16
     clamp((wide(a) * wide(b)) >> 15, -32768, 32767)
 }
 
-// x, limited to -16384..16383.
-pub fn limit(x: i32) -> i16
-    ensures { λ r. ⌜ r ≡ limit x ⌝ }
+// x, limited to -16384..16383, and whether that changed it.
+pub fn limit(x: i32) -> Limited
+    ensures { λ r. ⌜ r ≡ limited x ⌝ }
 {
-    clamp(x, -16384, 16383)
+    let value = clamp(x, -16384, 16383);
+    Limited {
+        value: value,
+        changed: wide(value) != x,
+    }
+}
+
+// 1 if t holds, else 0.
+fn one(t: bool) -> u32
+    ensures { λ r. ⌜ r ≡ one t ⌝ }
+{
+    if t {
+        return 1;
+    }
+    0
+}
+
+// How many of two limited values were changed. The counts are of 32 bits, as are the sums in the filters, so that a loop over both stays
+// one over numbers of one width.
+pub fn changes(a: Limited, b: Limited) -> u32
+    ensures { λ r. ⌜ r ≡ changes a b ⌝ }
+{
+    one(a.changed) + one(b.changed)
 }
 
 // The size of a difference: x from 0 up, -1 - x below 0.

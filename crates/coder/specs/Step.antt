@@ -1,17 +1,20 @@
--- What one step of the coder gives back: a word with the band after it, an octet with the record after it.
+-- What the parts of the coder give back: a word with the band after it, an octet with both, and runs of the bands and of the filter.
 -- Assumes nothing.
-use mathlib.Core.List.{List}
+use mathlib.Core.List.{List, [], _∷_, _++_}
 use Prim.Native.Nat.{ℕ}
 use lib.IntN.{ℤ}
-use Rattle.g722.specs.Band.{lowAfter, highAfter}
-use Rattle.g722.specs.Octet.{octet}
+use lib.ListN.{drop}
 use Rattle.laws.specs.Outcome.{Outcome}
-use Rattle.g722.specs.Coding.{lowWordOf, highWordOf, octetOf, coderStep, octetsOf, coderAfter}
+use Rattle.g722.specs.Arithmetic.{limit, overloads}
+use Rattle.g722.specs.Band.{lowAfter, highAfter}
+use Rattle.g722.specs.Mirror.{lowt, hight}
+use Rattle.g722.specs.Octet.{octet}
+use Rattle.g722.specs.Coding.{lowWordOf, highWordOf, splitInFull}
 use Rattle.g722.specs.declared.Band.{Band}
-use Rattle.g722.specs.declared.Coder.{Coder}
 use Rattle.coder.specs.declared.Word.{Word}
 use Rattle.coder.specs.declared.Banded.{Banded}
-use Rattle.coder.specs.declared.Sent.{Sent}
+use Rattle.coder.specs.declared.BothBands.{BothBands}
+use Rattle.coder.specs.declared.Split.{Split}
 
 unfoldable pub lowCoded : Band → ℤ → Word
 lowCoded s x = record { word = lowWordOf s x; next = lowAfter s (lowWordOf s x) }
@@ -26,9 +29,40 @@ bandsCoded low high xl xh =
     let ih = highWordOf high xh in
     record { octet = octet ih il; low = lowAfter low il; high = highAfter high ih }
 
-unfoldable pub sentOf : Coder → ℤ → ℤ → Sent
-sentOf c x y = record { octet = octetOf c x y; next = coderStep c x y }
+-- both over a run of signals: its octets, and the bands after it
+unfoldable pub octetsBy : Band → Band → List ℤ → List ℤ → List ℕ
+octetsBy low high [] xhs = []
+octetsBy low high (xl ∷ xls) [] = []
+octetsBy low high (xl ∷ xls) (xh ∷ xhs) =
+    let b = bandsCoded low high xl xh in
+    b .octet ∷ octetsBy (b .low) (b .high) xls xhs
 
--- a run's record and octets
-abbrev pub runOf : Coder → List ℤ → Outcome Coder (List ℕ)
-runOf c samples = record { answer = coderAfter c samples; left = octetsOf c samples }
+unfoldable pub bandsAfter : Band → Band → List ℤ → List ℤ → BothBands
+bandsAfter low high [] xhs = record { low = low; high = high }
+bandsAfter low high (xl ∷ xls) [] = record { low = low; high = high }
+bandsAfter low high (xl ∷ xls) (xh ∷ xhs) =
+    let b = bandsCoded low high xl xh in
+    bandsAfter (b .low) (b .high) xls xhs
+
+abbrev pub bandsRun : Band → Band → List ℤ → List ℤ → Outcome BothBands (List ℕ)
+bandsRun low high xls xhs = record { answer = bandsAfter low high xls xhs; left = octetsBy low high xls xhs }
+
+-- the transmit filter over a run of samples: a signal of each pair, XL or XH, and the 22 samples that the next run sees again
+unfoldable pub filteredBy : (List ℤ → ℤ) → List ℤ → List ℤ → List ℤ
+filteredBy filter past [] = []
+filteredBy filter past (x ∷ []) = []
+filteredBy filter past (x ∷ y ∷ rest) =
+    let w = past ++ (x ∷ y ∷ []) in
+    limit (filter w) ∷ filteredBy filter (drop 2 w) rest
+
+unfoldable pub pastAfter : List ℤ → List ℤ → List ℤ
+pastAfter past [] = past
+pastAfter past (x ∷ []) = past
+pastAfter past (x ∷ y ∷ rest) = pastAfter (drop 2 (past ++ (x ∷ y ∷ []))) rest
+
+abbrev pub splitRun : List ℤ → List ℤ → Outcome Split (List ℤ × List ℤ)
+splitRun past samples =
+    record {
+      answer = record { limited = overloads (splitInFull past samples); past = pastAfter past samples };
+      left = (filteredBy lowt past samples, filteredBy hight past samples);
+    }

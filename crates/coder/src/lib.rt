@@ -1,27 +1,30 @@
-// The coding call: samples to octets, with its refusals 3, 2, 4 (SCOPE 8).
-mod pair;
+// The coding call: samples to octets, with its refusals 3, 2, 4 (SCOPE 8). A block of samples goes through the transmit filter first, and
+// then its signals through both bands: so the filter is a loop of its own, which the compiler makes four pairs at a time of.
+mod bands;
+mod signals;
 
 ghost use mathlib.Core.Path.{_≡_};
-ghost use Prim.Native.Nat.{_*_};
+ghost use Prim.Native.Nat.{_*_, _≤_};
 ghost use lib.ListN.{length};
 ghost use Rattle.laws.specs.Outcome.{Does};
 ghost use Rattle.g722.specs.Records.{resetCoder, goodCoder};
-ghost use Rattle.g722.specs.Coding.{codeCall};
-ghost use Rattle.coder.specs.Step.{runOf};
+ghost use Rattle.g722.specs.Coding.{coded, codeCall};
+use bands::bands_all;
+pub use bands::bands_coded;
+pub use bands::high_coded;
+pub use bands::low_coded;
 use bounds::all_in_range;
 use bounds::both;
 use bounds::first_bad;
 use bounds::good_high;
 use bounds::good_low;
+use bounds::lesser;
 use bounds::misfit;
 use bounds::reset_band;
 use g722::Band;
 use g722::Coded;
 use g722::Coder;
-pub use pair::bands_coded;
-pub use pair::high_coded;
-pub use pair::low_coded;
-use pair::step;
+use signals::split_all;
 
 // A band's code word, and the band after it.
 pub struct Word {
@@ -36,10 +39,16 @@ pub struct Banded {
     pub high: Band,
 }
 
-// An octet, and the coder after it.
-pub struct Sent {
-    pub octet: u8,
-    pub next: Coder,
+// Both bands.
+pub struct BothBands {
+    pub low: Band,
+    pub high: Band,
+}
+
+// What the transmit filter leaves of a run: how many of its signals were limited, and the 22 samples that the next one sees again.
+pub(crate) struct Split {
+    pub(crate) limited: u32,
+    pub(crate) past: [i16; 22],
 }
 
 // The record from which both ends start.
@@ -63,29 +72,83 @@ pub fn good_coder(c: Coder) -> bool
     both(both(good_low(low), good_high(high)), all_in_range(&past))
 }
 
-// Codes pair after pair.
-fn run(c: Coder, samples: &[i16], octets: &mut [u8]) -> Coder
-    requires { ⌜ length (now samples) ≡ 2 * length (now octets) ⌝ }
-    ensures { λ r. ⌜ Does (runOf c (now (samples .entry))) r (now (octets .exit)) ⌝ }
-{
-    let mut s = c;
-    for i in 0..octets.len() {
-        let t = step(s, samples[2 * i], samples[2 * i + 1]);
-        octets[i] = t.octet;
-        s = t.next;
-    }
-    s
-}
-
-// The answer of a call.
-fn answer(number: u8, index: usize, c: Coder) -> Coded
-    ensures { λ r. ⌜ r ≡ record { number = number; index = index; next = c } ⌝ }
+// The answer of a refused call, with no count.
+fn refused(number: u8, index: usize, c: Coder) -> Coded
+    ensures { λ r. ⌜ r ≡ record { number = number; index = index; limited = 0; next = c } ⌝ }
 {
     Coded {
         number: number,
         index: index,
+        limited: 0,
         next: c,
     }
+}
+
+// The answer of an accepted call, with its count.
+fn done(limited: u32, c: Coder) -> Coded
+    ensures { λ r. ⌜ r ≡ record { number = 0; index = 0; limited = limited; next = c } ⌝ }
+{
+    Coded {
+        number: 0,
+        index: 0,
+        limited: limited,
+        next: c,
+    }
+}
+
+// The filter and then the bands, with lent room for the signals on their way.
+fn in_turn(c: Coder, samples: &[i16], low: &mut [i16], high: &mut [i16], octets: &mut [u8]) -> Coded
+    requires { ⌜ length (now octets) ≤ 8000 ⌝ }
+    requires { ⌜ length (now samples) ≡ 2 * length (now octets) ⌝ }
+    requires { ⌜ length (now low) ≡ length (now octets) ⌝ }
+    requires { ⌜ length (now high) ≡ length (now octets) ⌝ }
+    ensures { λ r. ⌜ Does (coded c (now (samples .entry))) r (now (octets .exit)) ⌝ }
+{
+    let past = c.past;
+    let low_band = c.low;
+    let high_band = c.high;
+    let s = split_all(past, samples, low, high);
+    let b = bands_all(low_band, high_band, low, high, octets);
+    let low_next = b.low;
+    let high_next = b.high;
+    let past_next = s.past;
+    let next = Coder {
+        low: low_next,
+        high: high_next,
+        past: past_next,
+    };
+    done(s.limited, next)
+}
+
+// The same over at most 32 pairs, with room of its own.
+fn block(c: Coder, samples: &[i16], octets: &mut [u8]) -> Coded
+    requires { ⌜ length (now octets) ≤ 32 ⌝ }
+    requires { ⌜ length (now samples) ≡ 2 * length (now octets) ⌝ }
+    ensures { λ r. ⌜ Does (coded c (now (samples .entry))) r (now (octets .exit)) ⌝ }
+{
+    let n = octets.len();
+    let mut low = [0i16; 32];
+    let mut high = [0i16; 32];
+    in_turn(c, samples, &mut low[..n], &mut high[..n], octets)
+}
+
+// Block after block.
+fn run(c: Coder, samples: &[i16], octets: &mut [u8]) -> Coded
+    requires { ⌜ length (now octets) ≤ 8000 ⌝ }
+    requires { ⌜ length (now samples) ≡ 2 * length (now octets) ⌝ }
+    ensures { λ r. ⌜ Does (coded c (now (samples .entry))) r (now (octets .exit)) ⌝ }
+{
+    let mut s = c;
+    let mut limited: u32 = 0;
+    let mut at = 0;
+    while at < octets.len() {
+        let to = at + lesser(32, octets.len() - at);
+        let t = block(s, &samples[2 * at..2 * to], &mut octets[at..to]);
+        s = t.next;
+        limited = limited + t.limited;
+        at = to;
+    }
+    done(limited, s)
 }
 
 // A coding call: 2n samples to n octets, n at most 8000. All samples are looked at before the first is coded.
@@ -95,13 +158,13 @@ pub fn code(c: Coder, samples: &[i16], octets: &mut [u8]) -> Coded
     let unfit = misfit(samples.len(), octets.len());
     let good = good_coder(c);
     if unfit {
-        return answer(3, 0, c);
+        return refused(3, 0, c);
     }
     if !good {
-        return answer(2, 0, c);
+        return refused(2, 0, c);
     }
     if !all_in_range(samples) {
-        return answer(4, first_bad(samples), c);
+        return refused(4, first_bad(samples), c);
     }
-    answer(0, 0, run(c, samples, octets))
+    run(c, samples, octets)
 }

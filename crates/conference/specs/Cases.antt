@@ -11,8 +11,8 @@ use lib.Dec.{ltb, eqb}
 use lib.ListN.{length}
 use Rattle.laws.specs.Order.{no, by-test}
 use Rattle.laws.specs.Outcome.{Outcome}
-use Rattle.conference.specs.Tick.{unseated, uneven, anyAbove, goodPorts, octetsTo, deskAfter, notTicked, ticked, tickCall}
-use Rattle.conference.specs.Tick.{resetDesk}
+use Rattle.conference.specs.Tick.{unseated, uneven, anyAbove, goodPorts, octetsTo, deskAfter}
+use Rattle.conference.specs.Tick.{tickLimited, notTicked, ticked, tickCall, resetDesk}
 use Rattle.conference.specs.declared.Desk.{Desk}
 use Rattle.conference.specs.declared.Ticked.{Ticked}
 
@@ -39,32 +39,32 @@ even ports modes octets room e =
 
 module _ (desk : Desk) (modes octets room : List ℕ) where
   pub tick-9 : unseated (desk .ports) ≡ true
-      → tickCall desk modes octets room ≡ record { answer = record { number = 9; index = 0; next = desk }; left = room }
+      → tickCall desk modes octets room ≡ record { answer = record { number = 9; index = 0; limited = 0; next = desk }; left = room }
   unfolding tickCall notTicked
   tick-9 s = rw s
 
   module _ (s : unseated (desk .ports) ≡ false) where
     pub tick-3 : uneven (desk .ports) (length modes) (length octets) (length room) ≡ true
-        → tickCall desk modes octets room ≡ record { answer = record { number = 3; index = 0; next = desk }; left = room }
+        → tickCall desk modes octets room ≡ record { answer = record { number = 3; index = 0; limited = 0; next = desk }; left = room }
     unfolding tickCall notTicked
     tick-3 n = rw (s, n)
 
     module _ (n : uneven (desk .ports) (length modes) (length octets) (length room) ≡ false) where
       pub tick-1 : anyAbove modes ≡ true
-          → tickCall desk modes octets room ≡ record { answer = record { number = 1; index = 0; next = desk }; left = room }
+          → tickCall desk modes octets room ≡ record { answer = record { number = 1; index = 0; limited = 0; next = desk }; left = room }
       unfolding tickCall notTicked
       tick-1 m = rw (s, n, m)
 
       module _ (m : anyAbove modes ≡ false) where
         pub tick-2 : goodPorts desk ≡ false
-            → tickCall desk modes octets room ≡ record { answer = record { number = 2; index = 0; next = desk }; left = room }
+            → tickCall desk modes octets room ≡ record { answer = record { number = 2; index = 0; limited = 0; next = desk }; left = room }
         unfolding tickCall notTicked
         tick-2 g = rw (s, n, m, g)
 
         pub tick-0 : goodPorts desk ≡ true
             → tickCall desk modes octets room
             ≡ record {
-              answer = record { number = 0; index = 0; next = deskAfter desk modes octets };
+              answer = record { number = 0; index = 0; limited = tickLimited desk modes octets; next = deskAfter desk modes octets };
               left = octetsTo desk modes octets;
             }
         unfolding tickCall ticked
@@ -76,18 +76,19 @@ pub no-desk-ticks : (ports : ℕ) (modes octets room : List ℕ) → unseated po
 unfolding resetDesk
 no-desk-ticks ports modes octets room s = ap (λ x. x .answer .number) (tick-9 (resetDesk ports) modes octets room s)
 
--- ---- a tick that is refused changes nothing, and one that is not
+-- ---- a tick that is refused changes nothing and counts nothing, and one that is not
 
 module _ (desk : Desk) (ms os room : List ℕ) where
   pub refused : (tickCall desk ms os room .answer .number ≡ 0 → ⊥)
       → (tickCall desk ms os room .answer .next ≡ desk) × (tickCall desk ms os room .left ≡ room)
+      × (tickCall desk ms os room .answer .limited ≡ 0)
   refused f =
-      by-test (unseated (desk .ports)) (λ s. rw (tick-9 desk ms os room s) (refl, refl)) (λ s.
-      by-test (uneven (desk .ports) (length ms) (length os) (length room)) (λ n. rw (tick-3 desk ms os room s n) (refl, refl)) (λ n.
-      by-test (anyAbove ms) (λ m. rw (tick-1 desk ms os room s n m) (refl, refl)) (λ m.
+      by-test (unseated (desk .ports)) (λ s. rw (tick-9 desk ms os room s) (refl, refl, refl)) (λ s.
+      by-test (uneven (desk .ports) (length ms) (length os) (length room)) (λ n. rw (tick-3 desk ms os room s n) (refl, refl, refl)) (λ n.
+      by-test (anyAbove ms) (λ m. rw (tick-1 desk ms os room s n m) (refl, refl, refl)) (λ m.
       by-test (goodPorts desk)
       (λ g. absurd (f (ap (λ x. x .answer .number) (tick-0 desk ms os room s n m g))))
-      (λ g. rw (tick-2 desk ms os room s n m g) (refl, refl)))))
+      (λ g. rw (tick-2 desk ms os room s n m g) (refl, refl, refl)))))
 
 pub record Accepted (desk : Desk) (ms os room : List ℕ) : Type 0 where
   pub least : 2 ≤ desk .ports
@@ -96,7 +97,10 @@ pub record Accepted (desk : Desk) (ms os room : List ℕ) : Type 0 where
   pub octets : length os ≡ desk .ports
   pub good : goodPorts desk ≡ true
   pub done : tickCall desk ms os room
-      ≡ record { answer = record { number = 0; index = 0; next = deskAfter desk ms os }; left = octetsTo desk ms os }
+      ≡ record {
+        answer = record { number = 0; index = 0; limited = tickLimited desk ms os; next = deskAfter desk ms os };
+        left = octetsTo desk ms os;
+      }
 
 module _ (desk : Desk) (ms os room : List ℕ) where
   abbrev number : Outcome Ticked (List ℕ) → ℕ

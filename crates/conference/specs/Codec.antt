@@ -4,14 +4,16 @@
 use mathlib.Core.Path.{_≡_, refl}
 use mathlib.Core.Bool.{true}
 use mathlib.Core.List.{[], _∷_}
-use Prim.Native.Nat.{ℕ, _≤_}
+use Prim.Native.Nat.{ℕ, _+_, _≤_}
 use borrow.Author.Tests.{le-ltb}
 use lib.IntN.{ℤ}
 use lib.ListN.{drop}
+use Rattle.g722.specs.Arithmetic.{limit, overloads}
+use Rattle.g722.specs.Quantise.{inForce}
 use Rattle.g722.specs.Mirror.{lowt, hight}
 use Rattle.g722.specs.Records.{goodDecoder}
 use Rattle.g722.specs.Coding.{window, ilOf, ihOf, octetOf, coderStep}
-use Rattle.g722.specs.Steps.{signalsOf, rlsOf, rhsOf, unpaired, hearCall}
+use Rattle.g722.specs.Steps.{signalsOf, ylsOf, yhsOf, rlsOf, rhsOf, unpaired, hearCall}
 use Rattle.g722.specs.InSteps.{hear-0}
 use Rattle.g722.specs.declared.Coder.{Coder}
 use Rattle.g722.specs.declared.Decoder.{Decoder}
@@ -21,7 +23,12 @@ use Rattle.conference.specs.Ports.{rlFrom, rhFrom, decoderFrom, octetTo,
 pub port-by-first-step : (d : Decoder) (told o : ℕ) (x y : ℤ) → told ≤ 3 → goodDecoder d ≡ true
     → hearCall d told (o ∷ []) (x ∷ []) (y ∷ [])
     ≡ record {
-      answer = record { number = 0; index = 0; next = decoderFrom d o };
+      answer = record {
+        number = 0;
+        index = 0;
+        limited = overloads (ylsOf (inForce told) (d .low) (o ∷ [])) + overloads (yhsOf (d .high) (o ∷ []));
+        next = decoderFrom d o;
+      };
       left = (rlFrom d (told, o) ∷ [], rhFrom d o ∷ []);
     }
 unfolding rlFrom rhFrom decoderFrom rlsOf rhsOf signalsOf unpaired
@@ -30,7 +37,7 @@ port-by-first-step d told o x y m g = hear-0 d told (o ∷ []) (x ∷ []) (y ∷
 -- a pair of samples is coded by the same two sub-band coders, out of the transmit filter; its past samples are all that moves beside
 module _ (c : Coder) (x y : ℤ) where
   abbrev pub filtered : ℤ × ℤ
-  filtered = (lowt (window c x y), hight (window c x y))
+  filtered = (limit (lowt (window c x y)), limit (hight (window c x y)))
 
   pub coding-by-sub-bands : (octetOf c x y ≡ octetTo c filtered)
       × (coderStep c x y ≡ record { low = coderTo c filtered .low; high = coderTo c filtered .high; past = drop 2 (window c x y) })

@@ -2,15 +2,16 @@
 -- Assumes nothing.
 use mathlib.Core.Bool.{Bool, true, false, cond, not, _&&_, _||_}
 use mathlib.Core.List.{List, [], _∷_, zip, zipWith}
-use Prim.Native.Nat.{ℕ}
+use Prim.Native.Nat.{ℕ, _+_}
 use lib.Dec.{ltb, eqb}
 use lib.IntN.{ℤ}
 use lib.ListN.{length, take, replicate}
 use Rattle.laws.specs.Outcome.{Outcome}
+use Rattle.g722.specs.Arithmetic.{overloads}
 use Rattle.g722.specs.Records.{goodCoder, goodDecoder, resetCoder, resetDecoder}
 use Rattle.g722.specs.declared.Coder.{Coder}
 use Rattle.g722.specs.declared.Decoder.{Decoder}
-use Rattle.conference.specs.Sums.{mixed}
+use Rattle.conference.specs.Sums.{sumsOf, mixed}
 use Rattle.conference.specs.Ports.{rlsFrom, rhsFrom, decoderFrom, octetTo, coderTo, eachPort}
 use Rattle.conference.specs.declared.Desk.{Desk}
 use Rattle.conference.specs.declared.Ticked.{Ticked}
@@ -58,15 +59,25 @@ deskAfter desk modes octets =
       decoders = eachPort decoderFrom (desk .decoders) octets;
     }
 
+-- how many of the sums are limited: of these low and high signals, and of a tick
+unfoldable pub sumsLimited : List ℤ → List ℤ → ℕ
+sumsLimited low high = overloads (sumsOf low) + overloads (sumsOf high)
+
+unfoldable pub tickLimited : Desk → List ℕ → List ℕ → ℕ
+tickLimited desk modes octets = sumsLimited (rlsFrom (desk .decoders) modes octets) (rhsFrom (desk .decoders) octets)
+
 -- ---- the calls
 
--- a refused tick gives back the desk and the room as they came
+-- a refused tick gives back the desk and the room as they came, and has no count
 unfoldable pub notTicked : ℕ → Desk → List ℕ → Outcome Ticked (List ℕ)
-notTicked number desk room = record { answer = record { number = number; index = 0; next = desk }; left = room }
+notTicked number desk room = record { answer = record { number = number; index = 0; limited = 0; next = desk }; left = room }
 
 unfoldable pub ticked : Desk → List ℕ → List ℕ → Outcome Ticked (List ℕ)
 ticked desk modes octets =
-    record { answer = record { number = 0; index = 0; next = deskAfter desk modes octets }; left = octetsTo desk modes octets }
+    record {
+      answer = record { number = 0; index = 0; limited = tickLimited desk modes octets; next = deskAfter desk modes octets };
+      left = octetsTo desk modes octets;
+    }
 
 -- a tick: 9, then 3, then 1, then 2
 unfoldable pub tickCall : Desk → List ℕ → List ℕ → List ℕ → Outcome Ticked (List ℕ)
@@ -82,4 +93,4 @@ unfoldable pub resetDesk : ℕ → Desk
 resetDesk ports = record { ports = ports; coders = replicate 8 resetCoder; decoders = replicate 8 resetDecoder }
 
 unfoldable pub resetCall : ℕ → Ticked
-resetCall ports = record { number = cond (unseated ports) 9 0; index = 0; next = resetDesk ports }
+resetCall ports = record { number = cond (unseated ports) 9 0; index = 0; limited = 0; next = resetDesk ports }

@@ -49,17 +49,24 @@ made-at f n k d h =
     let there : k < length (map f (portsFrom 0 n)) = rw (length-map (portsFrom 0 n) f, ports-length 0 n) h in
     same-at (map f (portsFrom 0 n)) k d (f 0) there ∙ List·getD-map f (portsFrom 0 n) k 0 ∙ ap f (ports-at 0 n k h ∙ omega arith)
 
+pub sums-length : (xs : List ℤ) → length (sumsOf xs) ≡ length xs
+unfolding sumsOf
+sums-length xs = length-map (portsFrom 0 (length xs)) (othersOf xs) ∙ ports-length 0 (length xs)
+
+pub sums-at : (xs : List ℤ) (k : ℕ) → k < length xs → getD (sumsOf xs) k (pos 0) ≡ othersOf xs k
+unfolding sumsOf
+sums-at xs k h = made-at (othersOf xs) (length xs) k (pos 0) h
+
 pub mixed-length : (xs : List ℤ) → length (mixed xs) ≡ length xs
-unfolding mixed sumsOf
-mixed-length xs =
-    length-map (sumsOf xs) limit ∙ length-map (portsFrom 0 (length xs)) (othersOf xs) ∙ ports-length 0 (length xs)
+unfolding mixed
+mixed-length xs = length-map (sumsOf xs) limit ∙ sums-length xs
 
 pub mixed-at : (xs : List ℤ) (k : ℕ) → k < length xs → getD (mixed xs) k (pos 0) ≡ limit (othersOf xs k)
-unfolding mixed sumsOf
+unfolding mixed
 mixed-at xs k h =
     same-at (mixed xs) k (pos 0) (limit (pos 0)) (rw (mixed-length xs) h)
     ∙ List·getD-map limit (sumsOf xs) k (pos 0)
-    ∙ ap limit (made-at (othersOf xs) (length xs) k (pos 0) h)
+    ∙ ap limit (sums-at xs k h)
 
 -- ---- all the sums together
 

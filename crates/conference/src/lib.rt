@@ -9,9 +9,11 @@ pub struct Desk {
     pub decoders: [Decoder; 8],
 }
 
-// The answer of a call: the number of SCOPE 7, an index that no number of the desk gives a place, and the next desk.
+// The answer of a call: the number of SCOPE 7, an index that no number of the desk gives a place, how many sums were limited, and the
+// next desk.
 pub struct Ticked {
     pub number: u8,
     pub index: usize,
+    pub limited: u32,
     pub next: Desk,
 }

@@ -10,9 +10,11 @@ use lib.Seq.{drop-drop}
 use borrow.Rule.Slice.PartMut.{putMid, mid-len, same-len-mid}
 use Rattle.laws.specs.Parts.{behind}
 use Rattle.laws.specs.Turns.{put-all}
-use Rattle.facts.specs.Told.{samples-length}
-use Rattle.facts.specs.Steps.{record-cut, samples-cut}
-use Rattle.g722.specs.Decoding.{samplesOf, decoderAfter}
+use Rattle.facts.specs.Told.{full-length, samples-length}
+use Rattle.facts.specs.Steps.{record-cut, full-cut, samples-cut}
+use Rattle.facts.specs.Overload.{Counted, overloads-append, overloads-most}
+use Rattle.g722.specs.Arithmetic.{overloads}
+use Rattle.g722.specs.Decoding.{samplesInFull, samplesOf, decoderAfter}
 use Rattle.g722.specs.declared.Decoder.{Decoder}
 
 -- the octets from a to e, and those behind them
@@ -20,8 +22,8 @@ module _ (mode : ℕ) (s : Decoder) (o : List ℕ) (a e : ℕ) (h : a ≤ e) whe
   abbrev part : List ℕ
   part = take (e - a) (drop a o)
 
-  whole : part ++ drop e o ≡ drop a o
-  whole =
+  joins-up : part ++ drop e o ≡ drop a o
+  joins-up =
       let n : a + (e - a) ≡ e = omega arith in
       ap (λ (l : List ℕ). part ++ l) (sym (drop-drop (e - a) a o ∙ ap (λ (k : ℕ). drop k o) n)) ∙ take-append-drop (e - a) (drop a o)
 
@@ -38,7 +40,9 @@ module _ (mode : ℕ) (s : Decoder) (o : List ℕ) (a e : ℕ) (h : a ≤ e) whe
     module _ {next : Decoder} (n : next ≡ decoderAfter mode s part) where
       pub record-turn : decoderAfter mode next (drop e o) ≡ decoderAfter mode s (drop a o)
       record-turn =
-          ap (λ (d : Decoder). decoderAfter mode d (drop e o)) n ∙ sym (record-cut mode s part (drop e o)) ∙ ap (decoderAfter mode s) whole
+          ap (λ (d : Decoder). decoderAfter mode d (drop e o)) n
+          ∙ sym (record-cut mode s part (drop e o))
+          ∙ ap (decoderAfter mode s) joins-up
 
       pub samples-turn : take (2 * e) (putMid (2 * a) (2 * e - 2 * a) x y) ++ samplesOf mode next (drop e o)
           ≡ take (2 * a) x ++ samplesOf mode s (drop a o)
@@ -47,7 +51,23 @@ module _ (mode : ℕ) (s : Decoder) (o : List ℕ) (a e : ℕ) (h : a ≤ e) whe
           (behind (2 * a) (2 * e) x y (take (2 * a) x) (omega arith) room long refl)
           ∙ append-assoc (take (2 * a) x) y (samplesOf mode next (drop e o))
           ∙ (λ i. take (2 * a) x ++ (f i ++ samplesOf mode (n i) (drop e o)))
-          ∙ ap (λ (z : List ℤ). take (2 * a) x ++ z) (sym (samples-cut mode s part (drop e o)) ∙ ap (samplesOf mode s) whole)
+          ∙ ap (λ (z : List ℤ). take (2 * a) x ++ z) (sym (samples-cut mode s part (drop e o)) ∙ ap (samplesOf mode s) joins-up)
+
+    -- what is counted
+    pub block-counted : {n m whole : ℕ} {next : Decoder} → Counted n (overloads (samplesInFull mode s (drop a o))) whole a
+        → m ≡ overloads (samplesInFull mode s part) → next ≡ decoderAfter mode s part
+        → Counted (n + m) (overloads (samplesInFull mode next (drop e o))) whole e
+    block-counted f m≡ next≡ =
+        let rest = samplesInFull mode (decoderAfter mode s part) (drop e o) in
+        let cut : overloads (samplesInFull mode s (drop a o)) ≡ overloads (samplesInFull mode s part) + overloads rest =
+        ap (λ (l : List ℕ). overloads (samplesInFull mode s l)) (sym joins-up)
+        ∙ ap overloads (full-cut mode s part (drop e o))
+        ∙ overloads-append (samplesInFull mode s part) rest in
+        let same = ap (λ (d : Decoder). overloads (samplesInFull mode d (drop e o))) next≡ in
+        record {
+          all = omega (arith, f .all);
+          most = omega (arith, f .most, overloads-most (samplesInFull mode s part), full-length mode s part, mid-len a e o within);
+        }
 
 -- the end of the octets
 module _ (mode : ℕ) (s : Decoder) (o : List ℕ) (a : ℕ) (h : length o ≤ a) where
@@ -56,5 +76,9 @@ module _ (mode : ℕ) (s : Decoder) (o : List ℕ) (a : ℕ) (h : length o ≤ a
   record-end = ap (decoderAfter mode s) (drop-of-length-le o h)
 
   pub samples-end : (x : List ℤ) → length x ≤ 2 * a → take (2 * a) x ++ samplesOf mode s (drop a o) ≡ x
-  unfolding samplesOf
+  unfolding samplesOf samplesInFull
   samples-end x k = put-all x _ (2 * a) k (ap (samplesOf mode s) (drop-of-length-le o h))
+
+  pub all-counted : {n whole : ℕ} → Counted n (overloads (samplesInFull mode s (drop a o))) whole a → n ≡ whole
+  unfolding samplesInFull overloads
+  all-counted f = omega (arith, f .all, ap (λ (l : List ℕ). overloads (samplesInFull mode s l)) (drop-of-length-le o h))

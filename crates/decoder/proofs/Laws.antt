@@ -7,13 +7,14 @@ use Prim.Native.Nat.{ℕ, _≤_, _<_}
 use borrow.Author.Tests.{lt-ltb, le-ltb}
 use lib.IntN.{ℤ}
 use lib.ListN.{length}
-use Rattle.g722.specs.Arithmetic.{add, limit}
+use Rattle.g722.specs.Arithmetic.{add, limited}
 use Rattle.g722.specs.Quantise.{inForce}
 use Rattle.g722.specs.Band.{recons, nextBand}
 use Rattle.g722.specs.Records.{goodDecoder}
 use Rattle.g722.specs.Coding.{misfit}
 use Rattle.g722.specs.Decoding.{notDecoded, decoded, decodeCall}
 use Rattle.g722.specs.declared.Factors.{Factors}
+use Rattle.g722.specs.declared.Limited.{Limited}
 use Rattle.g722.specs.declared.Band.{Band}
 use Rattle.g722.specs.declared.Decoder.{Decoder}
 use Rattle.band.specs.declared.Estimates.{Estimates}
@@ -22,14 +23,15 @@ use Rattle.decoder.specs.declared.Signal.{Signal}
 
 -- ---- one band, low or high: its heard signal and the band after it, step by step
 
-pub band-heard : (band : Band) (heard looped : ℤ) (factors : Factors) {e : Estimates} {s q y d signal : ℤ} {f : Factors} {next : Band}
-    → e ≡ estimated band → s ≡ e .s → q ≡ heard → y ≡ add s q → signal ≡ limit y → d ≡ looped → f ≡ factors → next ≡ adapted band e d f
+pub band-heard : (band : Band) (heard looped : ℤ) (factors : Factors)
+    {e : Estimates} {s q y d : ℤ} {signal : Limited} {f : Factors} {next : Band}
+    → e ≡ estimated band → s ≡ e .s → q ≡ heard → y ≡ add s q → signal ≡ limited y → d ≡ looped → f ≡ factors → next ≡ adapted band e d f
     → _≡_ {A = Signal} (record { signal = signal; next = next })
-    (record { signal = limit (recons band heard); next = nextBand band looped factors })
+    (record { signal = limited (recons band heard); next = nextBand band looped factors })
 unfolding estimated recons
 band-heard band heard looped factors e≡ s≡ q≡ y≡ signal≡ d≡ f≡ next≡ =
     let y = y≡ ∙ λ i. add ((s≡ ∙ ap (λ (t : Estimates). t .s) e≡) i) (q≡ i) in
-    let signal = signal≡ ∙ ap limit y in
+    let signal = signal≡ ∙ ap limited y in
     let next = next≡ ∙ (λ i. adapted band (e≡ i) (d≡ i) (f≡ i)) ∙ halves band looped factors in
     λ i. record { signal = signal i; next = next i }
 

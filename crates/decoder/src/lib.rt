@@ -8,8 +8,7 @@ ghost use Prim.Native.Nat.{_*_, _≤_};
 ghost use lib.ListN.{length};
 ghost use Rattle.laws.specs.Outcome.{Does};
 ghost use Rattle.g722.specs.Records.{resetDecoder, goodDecoder};
-ghost use Rattle.g722.specs.Decoding.{decodeCall};
-ghost use Rattle.decoder.specs.Step.{runOf};
+ghost use Rattle.g722.specs.Decoding.{decoded, decodeCall};
 use bounds::all_in_range;
 use bounds::both;
 use bounds::good_high;
@@ -20,6 +19,7 @@ use bounds::reset_band;
 use g722::Band;
 use g722::Decoded;
 use g722::Decoder;
+use g722::Limited;
 use g722::Pairs;
 pub use octet::high_heard;
 pub use octet::low_heard;
@@ -29,9 +29,9 @@ use samples::join_all;
 pub use signals::hear;
 use signals::hear_all;
 
-// A band's heard signal, and the band after it.
+// A band's heard signal, limited, and the band after it.
 pub struct Signal {
-    pub signal: i16,
+    pub signal: Limited,
     pub next: Band,
 }
 
@@ -62,13 +62,26 @@ pub fn good_decoder(d: Decoder) -> bool
     both(both(bands, all_in_range(&rl)), all_in_range(&rh))
 }
 
-// The answer of a call.
-pub(crate) fn answer(number: u8, index: usize, d: Decoder) -> Decoded
-    ensures { λ r. ⌜ r ≡ record { number = number; index = index; next = d } ⌝ }
+// The answer of a refused call, with no count.
+pub(crate) fn refused(number: u8, index: usize, d: Decoder) -> Decoded
+    ensures { λ r. ⌜ r ≡ record { number = number; index = index; limited = 0; next = d } ⌝ }
 {
     Decoded {
         number: number,
         index: index,
+        limited: 0,
+        next: d,
+    }
+}
+
+// The answer of an accepted call, with its count.
+pub(crate) fn done(limited: u32, d: Decoder) -> Decoded
+    ensures { λ r. ⌜ r ≡ record { number = 0; index = 0; limited = limited; next = d } ⌝ }
+{
+    Decoded {
+        number: 0,
+        index: 0,
+        limited: limited,
         next: d,
     }
 }
@@ -81,21 +94,22 @@ fn in_turn(
     low: &mut [i16],
     high: &mut [i16],
     samples: &mut [i16],
-) -> Decoder
+) -> Decoded
+    requires { ⌜ length (now octets) ≤ 8000 ⌝ }
     requires { ⌜ length (now low) ≡ length (now octets) ⌝ }
     requires { ⌜ length (now high) ≡ length (now octets) ⌝ }
     requires { ⌜ length (now samples) ≡ 2 * length (now octets) ⌝ }
-    ensures { λ r. ⌜ Does (runOf mode d (now (octets .entry))) r (now (samples .exit)) ⌝ }
+    ensures { λ r. ⌜ Does (decoded mode d (now (octets .entry))) r (now (samples .exit)) ⌝ }
 {
     let heard = hear_all(mode, d, octets, low, high);
-    join_all(heard, low, high, samples)
+    join_all(heard.next, low, high, samples)
 }
 
 // The same over at most 32 octets, with room of its own.
-fn block(mode: u8, d: Decoder, octets: &[u8], samples: &mut [i16]) -> Decoder
+fn block(mode: u8, d: Decoder, octets: &[u8], samples: &mut [i16]) -> Decoded
     requires { ⌜ length (now octets) ≤ 32 ⌝ }
     requires { ⌜ length (now samples) ≡ 2 * length (now octets) ⌝ }
-    ensures { λ r. ⌜ Does (runOf mode d (now (octets .entry))) r (now (samples .exit)) ⌝ }
+    ensures { λ r. ⌜ Does (decoded mode d (now (octets .entry))) r (now (samples .exit)) ⌝ }
 {
     let n = octets.len();
     let mut low = [0i16; 32];
@@ -104,18 +118,22 @@ fn block(mode: u8, d: Decoder, octets: &[u8], samples: &mut [i16]) -> Decoder
 }
 
 // Block after block, so that the signals of a long call need no more room than those of a short one.
-fn run(mode: u8, d: Decoder, octets: &[u8], samples: &mut [i16]) -> Decoder
+fn run(mode: u8, d: Decoder, octets: &[u8], samples: &mut [i16]) -> Decoded
+    requires { ⌜ length (now octets) ≤ 8000 ⌝ }
     requires { ⌜ length (now samples) ≡ 2 * length (now octets) ⌝ }
-    ensures { λ r. ⌜ Does (runOf mode d (now (octets .entry))) r (now (samples .exit)) ⌝ }
+    ensures { λ r. ⌜ Does (decoded mode d (now (octets .entry))) r (now (samples .exit)) ⌝ }
 {
     let mut s = d;
+    let mut limited: u32 = 0;
     let mut at = 0;
     while at < octets.len() {
         let to = at + lesser(32, octets.len() - at);
-        s = block(mode, s, &octets[at..to], &mut samples[2 * at..2 * to]);
+        let t = block(mode, s, &octets[at..to], &mut samples[2 * at..2 * to]);
+        s = t.next;
+        limited = limited + t.limited;
         at = to;
     }
-    s
+    done(limited, s)
 }
 
 // A decoding call: n octets to 2n samples, n at most 8000, in a told mode, 0 being no indication.
@@ -125,13 +143,13 @@ pub fn decode(d: Decoder, told: u8, octets: &[u8], samples: &mut [i16]) -> Decod
     let unfit = misfit(samples.len(), octets.len());
     let good = good_decoder(d);
     if 3 < told {
-        return answer(1, 0, d);
+        return refused(1, 0, d);
     }
     if unfit {
-        return answer(3, 0, d);
+        return refused(3, 0, d);
     }
     if !good {
-        return answer(2, 0, d);
+        return refused(2, 0, d);
     }
-    answer(0, 0, run(in_force(told), d, octets, samples))
+    run(in_force(told), d, octets, samples)
 }

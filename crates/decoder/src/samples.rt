@@ -1,12 +1,13 @@
 // The second step: low and high signals to samples, by the receive filter. It moves the past pairs, and leaves both bands.
 ghost use mathlib.Core.Path.{_≡_};
-ghost use Prim.Native.Nat.{_*_};
+ghost use Prim.Native.Nat.{_*_, _≤_};
 ghost use lib.ListN.{length};
 ghost use Rattle.laws.specs.Outcome.{Does};
-ghost use Rattle.g722.specs.Steps.{joinCall};
-ghost use Rattle.decoder.specs.Step.{joinRun};
-use crate::answer;
+ghost use Rattle.g722.specs.Steps.{joined, joinCall};
+use crate::done;
 use crate::good_decoder;
+use crate::refused;
+use arith::changes;
 use bounds::all_in_range;
 use bounds::both;
 use bounds::first_bad;
@@ -19,12 +20,14 @@ use mirror::row;
 use mirror::row_kept;
 
 // Pair after pair.
-pub(crate) fn join_all(d: Decoder, low: &[i16], high: &[i16], samples: &mut [i16]) -> Decoder
+pub(crate) fn join_all(d: Decoder, low: &[i16], high: &[i16], samples: &mut [i16]) -> Decoded
+    requires { ⌜ length (now low) ≤ 8000 ⌝ }
     requires { ⌜ length (now high) ≡ length (now low) ⌝ }
     requires { ⌜ length (now samples) ≡ 2 * length (now low) ⌝ }
-    ensures { λ r. ⌜ Does (joinRun d (now (low .entry)) (now (high .entry))) r (now (samples .exit)) ⌝ }
+    ensures { λ r. ⌜ Does (joined d (now (low .entry)) (now (high .entry))) r (now (samples .exit)) ⌝ }
 {
     let mut past = d.past;
+    let mut limited: u32 = 0;
     for i in 0..low.len() {
         let past_rl = past.rl;
         let past_rh = past.rh;
@@ -33,8 +36,11 @@ pub(crate) fn join_all(d: Decoder, low: &[i16], high: &[i16], samples: &mut [i16
         let x = mirror::join(&rl, &rh);
         let first = x.first;
         let second = x.second;
-        samples[2 * i] = first;
-        samples[2 * i + 1] = second;
+        let xout1 = first.value;
+        let xout2 = second.value;
+        samples[2 * i] = xout1;
+        samples[2 * i + 1] = xout2;
+        limited = limited + changes(first, second);
         past = Pairs {
             rl: row_kept(rl),
             rh: row_kept(rh),
@@ -42,11 +48,12 @@ pub(crate) fn join_all(d: Decoder, low: &[i16], high: &[i16], samples: &mut [i16
     }
     let l = d.low;
     let h = d.high;
-    Decoder {
+    let next = Decoder {
         low: l,
         high: h,
         past: past,
-    }
+    };
+    done(limited, next)
 }
 
 // A call of the second step: n low and n high signals to 2n samples, n at most 8000. All are looked at before the first is joined.
@@ -56,16 +63,16 @@ pub fn join(d: Decoder, low: &[i16], high: &[i16], samples: &mut [i16]) -> Decod
     let unfit = misfit(samples.len(), low.len());
     let good = good_decoder(d);
     if unfit {
-        return answer(3, 0, d);
+        return refused(3, 0, d);
     }
     if high.len() != low.len() {
-        return answer(3, 0, d);
+        return refused(3, 0, d);
     }
     if !good {
-        return answer(2, 0, d);
+        return refused(2, 0, d);
     }
     if !both(all_in_range(low), all_in_range(high)) {
-        return answer(4, lesser(first_bad(low), first_bad(high)), d);
+        return refused(4, lesser(first_bad(low), first_bad(high)), d);
     }
-    answer(0, 0, join_all(d, low, high, samples))
+    join_all(d, low, high, samples)
 }

@@ -148,7 +148,7 @@ fn write_all(files: &[i32], octets: &[u8; 8000], n: usize) -> bool
     true
 }
 
-// Mixes n ticks and writes each port's octets.
+// Mixes n ticks and writes each port's octets, and shows the lamp.
 fn send(desk: Desk, modes: &[u8], octets: &[u8], n: usize, files: &[i32]) -> Onward
     requires { ⌜ 0 < length (now modes) ⌝ }
     requires { ⌜ length (now octets) ≤ 8000 ⌝ }
@@ -159,6 +159,7 @@ fn send(desk: Desk, modes: &[u8], octets: &[u8], n: usize, files: &[i32]) -> Onw
     let all = octets.len();
     let t = mix(desk, modes, octets, &mut room[..all]);
     let more = t.more && write_all(files, &room, n);
+    refusal::overload(t.limited);
     with(t, more)
 }
 

@@ -33,7 +33,7 @@ fn sent(octets: &[u8], rest: usize) -> bool {
     true
 }
 
-// Mixes and sends the whole ticks of a piece.
+// Mixes and sends the whole ticks of a piece, and shows the lamp.
 fn send(desk: Desk, modes: &[u8], octets: &[u8]) -> Onward
     requires { ⌜ 0 < length (now modes) ⌝ }
     requires { ⌜ length (now octets) ≤ 8000 ⌝ }
@@ -43,6 +43,7 @@ fn send(desk: Desk, modes: &[u8], octets: &[u8]) -> Onward
     let whole = octets.len() - rest;
     let t = mix(desk, modes, &octets[..whole], &mut room[..whole]);
     let more = t.more && sent(&room[..whole], rest);
+    refusal::overload(t.limited);
     with(t, more)
 }
 

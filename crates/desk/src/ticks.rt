@@ -5,9 +5,10 @@ ghost use lib.ListN.{length};
 use conference::Desk;
 use libc::STDERR_FILENO;
 
-// What some ticks leave: the desk after them, and whether to go on.
+// What some ticks leave: the desk after them, how many of their sums were limited, and whether to go on.
 pub(crate) struct Onward {
     pub(crate) next: Desk,
+    pub(crate) limited: u64,
     pub(crate) more: bool,
 }
 
@@ -23,38 +24,48 @@ pub(crate) fn start(modes: &[u8]) -> Desk
 pub(crate) fn last(desk: Desk) -> Onward {
     Onward {
         next: desk,
+        limited: 0,
         more: false,
     }
 }
 
-// The same desk, and whether to go on.
+// The same desk and count, and whether to go on.
 pub(crate) fn with(t: Onward, more: bool) -> Onward {
     let next = t.next;
     Onward {
         next: next,
+        limited: t.limited,
         more: more,
     }
 }
 
-// Mixes tick after tick, each an octet a port. A tick that is refused is said, and is the last.
+// Mixes tick after tick, each an octet a port, and counts. A tick that is refused is said, and is the last.
 pub(crate) fn mix(desk: Desk, modes: &[u8], octets: &[u8], room: &mut [u8]) -> Onward
     requires { ⌜ 0 < length (now modes) ⌝ }
+    requires { ⌜ length (now octets) ≤ 8000 ⌝ }
     requires { ⌜ length (now room) ≡ length (now octets) ⌝ }
 {
     let n = modes.len();
     let mut d = desk;
+    let mut limited: u64 = 0;
     let mut at: usize = 0;
     while at + n <= octets.len() {
         let t = mixer::tick(d, modes, &octets[at..at + n], &mut room[at..at + n]);
         d = t.next;
         if t.number != 0 {
             refusal::say(t.number, 0);
-            return last(d);
+            return Onward {
+                next: d,
+                limited: limited,
+                more: false,
+            };
         }
+        limited += t.limited as u64;
         at += n;
     }
     Onward {
         next: d,
+        limited: limited,
         more: true,
     }
 }

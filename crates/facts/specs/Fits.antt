@@ -7,10 +7,10 @@ use mathlib.Core.List.{List, [], _∷_, _++_, zipWith}
 use Prim.Native.Nat.{ℕ, zero, suc, _+_, _<_}
 use native.Mathlib.Omega.{arith}
 use borrow.Author.Tests.{ltb-true, ltb-false}
-use lib.Dec.{T, ltb, ltb→lt, lit<}
+use lib.Dec.{ltb, ltb→lt, lit<}
 use lib.IntN.{ℤ, pos}
 use lib.ListN.{length, getD, take, drop, replicate, length-append, List·getD-eq-default}
-use lib.Signed.{mag, ltZ, leZ, _≤ℤ_, leZ-yes}
+use lib.Signed.{mag, ltZ}
 use mir.Syntax.{w16}
 use Rattle.laws.specs.Both.{left-true, right-true}
 use Rattle.laws.specs.Clamp.{clamp, clamp-low, clamp-high, clamp-mid}
@@ -18,6 +18,7 @@ use Rattle.laws.specs.Every.{each-at}
 use Rattle.laws.specs.Order.{by-test, size-within}
 use Rattle.laws.specs.Size.{fits-between}
 use Rattle.g722.specs.Arithmetic.{neg, add, sub, mul, limit, within}
+use Rattle.g722.specs.Within.{within-ends}
 use Rattle.g722.specs.Tables.{ila}
 use Rattle.g722.specs.Quantise.{inverse, invqal, invqah, logsc, logscl, logsch, scaleAt, scalel, scaleh, lowFactors, highFactors}
 use Rattle.g722.specs.Band.{slide, parrec, recons, upzero, uppol2, reach, uppol1, nextZeros, nextPoles, nextBand, lowAfter, highAfter}
@@ -141,15 +142,11 @@ limit-fits : (z : ℤ) → Fit (limit z)
 unfolding limit
 limit-fits z = clamp-fits (neg 16384) (pos 16383) z (lit< tt) (lit< tt)
 
-from-true : (t : Bool) → t ≡ true → T t
-from-true t e = rw e tt
-
 pub in-range-fits : (z : ℤ) → inRange z ≡ true → Fit z
-unfolding inRange within
+unfolding inRange
 in-range-fits z e =
-    let l : neg 16384 ≤ℤ z = leZ-yes (from-true (leZ (neg 16384) z) (left-true (leZ (neg 16384) z) (leZ z (pos 16383)) e)) in
-    let h : z ≤ℤ pos 16383 = leZ-yes (from-true (leZ z (pos 16383)) (right-true (leZ (neg 16384) z) (leZ z (pos 16383)) e)) in
-    omega (arith, size-within 16383 z l h)
+    let w = within-ends (neg 16384) (pos 16383) z e in
+    omega (arith, size-within 16383 z (w .0) (w .1))
 
 -- ---- the factors
 

@@ -22,7 +22,8 @@ use Rattle.g722.specs.declared.Band.{Band}
 use Rattle.g722.specs.declared.Coder.{Coder}
 use Rattle.g722.specs.declared.Decoder.{Decoder}
 use Rattle.facts.specs.Reach.{reach-exact, reach-negated}
-use Rattle.facts.specs.Range.{is-within, equal-refl, range-append, range-drop, rl-in-range, rh-in-range}
+use Rattle.g722.specs.Within.{is-within, equal-refl}
+use Rattle.facts.specs.Range.{range-append, range-drop, rl-in-range, rh-in-range}
 
 -- ---- a band after a word
 

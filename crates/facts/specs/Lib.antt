@@ -6,6 +6,8 @@ pub mod Upper
 pub mod Told
 pub mod Steps
 pub mod Range
+pub mod Overload
+pub mod CodedRuns
 pub mod Good
 pub mod Fits
 pub mod Signals

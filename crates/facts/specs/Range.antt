@@ -1,44 +1,26 @@
--- What is limited is in range: the transmit filter's two signals, the heard signals, and every sample that a decoder gives.
+-- What is limited is in range: the heard signals, and every sample that a decoder gives.
 -- Assumes nothing.
 use mathlib.Core.Path.{_≡_, refl, sym}
-use mathlib.Core.Bool.{Bool, true, false, _&&_}
-use mathlib.Core.List.{List, [], _∷_, _++_}
+use mathlib.Core.Bool.{true, false, _&&_}
+use mathlib.Core.List.{List, [], _∷_, _++_, map}
 use Prim.Native.Nat.{ℕ, zero, suc, _≤_, _<_}
 use native.Mathlib.Nat.{le-of-suc-le-suc}
 use native.Mathlib.Omega.{arith}
-use lib.Dec.{T}
 use lib.IntN.{ℤ, pos}
 use lib.ListN.{length, drop}
-use lib.Signed.{leZ, _≤ℤ_, leZ-yes, ≤ℤ-refl}
+use lib.Signed.{leZ-yes}
 use Rattle.laws.specs.Both.{both, left-true, right-true}
 use Rattle.laws.specs.Clamp.{clamp-within}
 use Rattle.laws.specs.Order.{by-test, no}
-use Rattle.g722.specs.Arithmetic.{neg, limit, within, equal}
-use Rattle.g722.specs.Mirror.{lowt, hight, accumc, accumd}
+use Rattle.g722.specs.Arithmetic.{neg, limit}
+use Rattle.g722.specs.Within.{is-within}
 use Rattle.g722.specs.Records.{inRange, allInRange}
 use Rattle.g722.specs.Coding.{firstBad}
 use Rattle.g722.specs.Steps.{firstBadPair}
-use Rattle.g722.specs.Decoding.{rlOf, rhOf, firstOf, secondOf, decoderStep}
+use Rattle.g722.specs.Decoding.{rlOf, rhOf}
 use Rattle.g722.specs.declared.Band.{Band}
 use Rattle.g722.specs.declared.Decoder.{Decoder}
-use Rattle.facts.specs.Told.{Told, samplesRun}
-
--- ---- tests
-
-holds : (t : Bool) → T t → t ≡ true
-holds true x = refl
-holds false x = absurd x
-
-le-true : {a b : ℤ} → a ≤ℤ b → leZ a b ≡ true
-le-true {a} {b} h = holds (leZ a b) (h .le)
-
-pub is-within : {lo hi z : ℤ} → lo ≤ℤ z → z ≤ℤ hi → within lo hi z ≡ true
-unfolding within
-is-within l h = both (le-true l) (le-true h)
-
-pub equal-refl : (z : ℤ) → equal z z ≡ true
-unfolding equal
-equal-refl z = is-within (≤ℤ-refl z) (≤ℤ-refl z)
+use Rattle.facts.specs.Told.{Told, fullRun, samplesRun}
 
 -- ---- lists in range
 
@@ -98,30 +80,25 @@ some-bad-pair low high n e =
 
 -- ---- what is limited
 
-pub limited : (z : ℤ) → inRange (limit z) ≡ true
+pub limit-in-range : (z : ℤ) → inRange (limit z) ≡ true
 unfolding inRange limit
-limited z = let d = clamp-within (neg 16384) (pos 16383) z (leZ-yes tt) in is-within (d .0) (d .1)
+limit-in-range z = let d = clamp-within (neg 16384) (pos 16383) z (leZ-yes tt) in is-within (d .0) (d .1)
 
--- XL and XH
-pub lowt-in-range : (x : List ℤ) → inRange (lowt x) ≡ true
-unfolding lowt
-lowt-in-range x = limited _
-
-pub hight-in-range : (x : List ℤ) → inRange (hight x) ≡ true
-unfolding hight
-hight-in-range x = limited _
+pub limits-in-range : (zs : List ℤ) → allInRange (map limit zs) ≡ true
+unfolding allInRange
+limits-in-range [] = refl
+limits-in-range (z ∷ zs) = both (limit-in-range z) (limits-in-range zs)
 
 -- RL and RH
 pub rl-in-range : (mode : ℕ) (s : Band) (o : ℕ) → inRange (rlOf mode s o) ≡ true
 unfolding rlOf
-rl-in-range mode s o = limited _
+rl-in-range mode s o = limit-in-range _
 
 pub rh-in-range : (s : Band) (o : ℕ) → inRange (rhOf s o) ≡ true
 unfolding rhOf
-rh-in-range s o = limited _
+rh-in-range s o = limit-in-range _
 
 -- XOUT1 and XOUT2, over a run
 pub run-in-range : (d : Decoder) (ts : List Told) → allInRange (samplesRun d ts) ≡ true
-unfolding samplesRun firstOf secondOf accumc accumd allInRange
-run-in-range d [] = refl
-run-in-range d (t ∷ ts) = both (limited _) (both (limited _) (run-in-range (decoderStep (t .mode) d (t .octet)) ts))
+unfolding samplesRun
+run-in-range d ts = limits-in-range (fullRun d ts)

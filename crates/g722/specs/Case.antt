@@ -88,24 +88,27 @@ sent samples = these (codeCall resetCoder samples (replicate (length samples / 2
 abbrev pub heard : ℕ → List ℕ → List ℤ
 heard told octets = decodeCall resetDecoder told octets (replicate (2 * length octets) (pos 0)) .left
 
--- a call's number and index, and then what it leaves
+-- a call's number, its index and its count, and then what it leaves
 abbrev pub codes : Coder → List ℤ → List ℕ → List ℤ
 codes c samples octets =
-    let done = codeCall c samples octets in pos (done .answer .number) ∷ pos (done .answer .index) ∷ these (done .left)
+    let done = codeCall c samples octets in
+    these (done .answer .number ∷ done .answer .index ∷ done .answer .limited ∷ done .left)
 
 abbrev pub decodes : Decoder → ℕ → List ℕ → List ℤ → List ℤ
 decodes d told octets samples =
-    let done = decodeCall d told octets samples in pos (done .answer .number) ∷ pos (done .answer .index) ∷ done .left
+    let done = decodeCall d told octets samples in
+    these (done .answer .number ∷ done .answer .index ∷ done .answer .limited ∷ []) ++ done .left
 
 -- the low signals before the high ones
 abbrev pub hears : Decoder → ℕ → List ℕ → List ℤ → List ℤ → List ℤ
 hears d told octets low high =
     let done = hearCall d told octets low high in
-    pos (done .answer .number) ∷ pos (done .answer .index) ∷ done .left .0 ++ done .left .1
+    these (done .answer .number ∷ done .answer .index ∷ done .answer .limited ∷ []) ++ done .left .0 ++ done .left .1
 
 abbrev pub joins : Decoder → List ℤ → List ℤ → List ℤ → List ℤ
 joins d low high samples =
-    let done = joinCall d low high samples in pos (done .answer .number) ∷ pos (done .answer .index) ∷ done .left
+    let done = joinCall d low high samples in
+    these (done .answer .number ∷ done .answer .index ∷ done .answer .limited ∷ []) ++ done .left
 
 abbrev pub moves : Outcome Moved (List ℕ) → List ℤ
 moves done = pos (done .answer .number) ∷ pos (done .answer .index) ∷ these (done .left)

@@ -7,6 +7,7 @@ use lib.Dec.{ltb, eqb}
 use lib.IntN.{ℤ}
 use lib.ListN.{length, drop}
 use Rattle.laws.specs.Outcome.{Outcome}
+use Rattle.g722.specs.Arithmetic.{limit, overloads}
 use Rattle.g722.specs.Quantise.{subtra, quantl, quanth}
 use Rattle.g722.specs.Band.{predic, lowAfter, highAfter}
 use Rattle.g722.specs.Mirror.{lowt, hight}
@@ -29,10 +30,10 @@ highWordOf s x = quanth (subtra x (predic s)) (s .factors .scale)
 
 -- IL and IH of a pair
 unfoldable pub ilOf : Coder → ℤ → ℤ → ℕ
-ilOf c x y = lowWordOf (c .low) (lowt (window c x y))
+ilOf c x y = lowWordOf (c .low) (limit (lowt (window c x y)))
 
 unfoldable pub ihOf : Coder → ℤ → ℤ → ℕ
-ihOf c x y = highWordOf (c .high) (hight (window c x y))
+ihOf c x y = highWordOf (c .high) (limit (hight (window c x y)))
 
 -- one pair: its octet, and the record after it
 unfoldable pub octetOf : Coder → ℤ → ℤ → ℕ
@@ -53,6 +54,14 @@ coderAfter c [] = c
 coderAfter c (x ∷ []) = c
 coderAfter c (x ∷ y ∷ rest) = coderAfter (coderStep c x y) rest
 
+-- XL and XH of a run in full, from the 22 samples before it: XL before XH, pair after pair
+unfoldable pub splitInFull : List ℤ → List ℤ → List ℤ
+splitInFull past [] = []
+splitInFull past (x ∷ []) = []
+splitInFull past (x ∷ y ∷ rest) =
+    let w = past ++ (x ∷ y ∷ []) in
+    lowt w ∷ hight w ∷ splitInFull (drop 2 w) rest
+
 -- the index of the first sample out of range, or the length where there is none
 unfoldable pub firstBad : List ℤ → ℕ
 firstBad [] = zero
@@ -62,12 +71,17 @@ firstBad (x ∷ rest) = cond (inRange x) (suc (firstBad rest)) zero
 unfoldable pub misfit : ℕ → ℕ → Bool
 misfit samples octets = ltb 8000 octets || not (eqb samples (2 * octets))
 
--- a refused call gives back the record and the octets as they came
+-- a refused call gives back the record and the octets as they came, and has no count
 unfoldable pub notCoded : ℕ → ℕ → Coder → List ℕ → Outcome Coded (List ℕ)
-notCoded number index c octets = record { answer = record { number = number; index = index; next = c }; left = octets }
+notCoded number index c octets = record { answer = record { number = number; index = index; limited = 0; next = c }; left = octets }
 
+-- an accepted one counts the XL and XH that were limited
 unfoldable pub coded : Coder → List ℤ → Outcome Coded (List ℕ)
-coded c samples = record { answer = record { number = 0; index = 0; next = coderAfter c samples }; left = octetsOf c samples }
+coded c samples =
+    record {
+      answer = record { number = 0; index = 0; limited = overloads (splitInFull (c .past) samples); next = coderAfter c samples };
+      left = octetsOf c samples;
+    }
 
 -- a coding call: 3, then 2, then 4 with the index of the first bad sample
 unfoldable pub codeCall : Coder → List ℤ → List ℕ → Outcome Coded (List ℕ)

@@ -3,17 +3,18 @@
 use mathlib.Core.Path.{_≡_, refl}
 use mathlib.Core.Bool.{Bool, true, false, not, _||_}
 use mathlib.Core.List.{List, [], _∷_, _++_}
-use Prim.Native.Nat.{ℕ}
+use Prim.Native.Nat.{ℕ, _+_}
 use lib.Dec.{eqb, ltb}
 use lib.IntN.{ℤ, pos}
 use lib.ListN.{length}
-use Rattle.g722.specs.Arithmetic.{neg, within}
+use Rattle.g722.specs.Arithmetic.{neg, within, overloads}
 use Rattle.g722.specs.Quantise.{inForce}
 use Rattle.g722.specs.Records.{inRange, goodDecoder}
 use Rattle.g722.specs.Coding.{firstBad, misfit}
-use Rattle.g722.specs.Decoding.{rlOf, rhOf, rlRow, rhRow, firstOf, secondOf, decoderStep, samplesOf, decoderAfter}
-use Rattle.g722.specs.Steps.{signalsOf, bandAfter, lowNext, highNext, rlsOf, rhsOf, heardAfter, unpaired, notHeard, heard, hearCall}
-use Rattle.g722.specs.Steps.{pairsNext, joinedOf, pairsAfter, joinedAfter, firstBadPair, notJoined, joined, joinCall}
+use Rattle.g722.specs.Decoding.{rlOf, rhOf, rlRow, rhRow, firstOf, secondOf, decoderStep, samplesInFull, decoderAfter}
+use Rattle.g722.specs.Steps.{signalsOf, bandAfter, lowNext, highNext, ylsOf, yhsOf, rlsOf, rhsOf, heardAfter}
+use Rattle.g722.specs.Steps.{unpaired, notHeard, heard, hearCall}
+use Rattle.g722.specs.Steps.{pairsNext, joinedInFull, joinedOf, pairsAfter, joinedAfter, firstBadPair, notJoined, joined, joinCall}
 use Rattle.g722.specs.declared.Decoder.{Decoder}
 
 -- ---- two octets heard and then joined are two octets decoded
@@ -32,8 +33,9 @@ module _ (mode : ℕ) (d : Decoder) (a b : ℕ) where
   unfolding decoderStep rlRow rhRow pairsNext
   octet-by-steps = refl
 
-  pub samples-by-steps : samplesOf mode d two ≡ joinedOf (d .past) (rlsOf mode (d .low) two) (rhsOf (d .high) two)
-  unfolding samplesOf firstOf secondOf decoderStep rlRow rhRow rlsOf rhsOf signalsOf joinedOf pairsNext
+  -- its samples in full, and so the limited ones and their count
+  pub samples-by-steps : samplesInFull mode d two ≡ joinedInFull (d .past) (rlsOf mode (d .low) two) (rhsOf (d .high) two)
+  unfolding samplesInFull firstOf secondOf decoderStep rlRow rhRow rlsOf rhsOf signalsOf joinedInFull pairsNext
   samples-by-steps = refl
 
   pub record-by-steps : decoderAfter mode d two ≡ joinedAfter (heardAfter d two) (rlsOf mode (d .low) two) (rhsOf (d .high) two)
@@ -73,26 +75,32 @@ first-bad-pairs = refl
 
 module _ (d : Decoder) (told : ℕ) (octets : List ℕ) (low high : List ℤ) where
   pub hear-1 : ltb 3 told ≡ true
-      → hearCall d told octets low high ≡ record { answer = record { number = 1; index = 0; next = d }; left = (low, high) }
+      → hearCall d told octets low high ≡ record { answer = record { number = 1; index = 0; limited = 0; next = d }; left = (low, high) }
   unfolding hearCall notHeard
   hear-1 m = rw m
 
   module _ (m : ltb 3 told ≡ false) where
     pub hear-3 : unpaired (length octets) (length low) (length high) ≡ true
-        → hearCall d told octets low high ≡ record { answer = record { number = 3; index = 0; next = d }; left = (low, high) }
+        → hearCall d told octets low high ≡ record { answer = record { number = 3; index = 0; limited = 0; next = d }; left = (low, high) }
     unfolding hearCall notHeard
     hear-3 n = rw (m, n)
 
     module _ (n : unpaired (length octets) (length low) (length high) ≡ false) where
       pub hear-2 : goodDecoder d ≡ false
-          → hearCall d told octets low high ≡ record { answer = record { number = 2; index = 0; next = d }; left = (low, high) }
+          → hearCall d told octets low high
+          ≡ record { answer = record { number = 2; index = 0; limited = 0; next = d }; left = (low, high) }
       unfolding hearCall notHeard
       hear-2 g = rw (m, n, g)
 
       pub hear-0 : goodDecoder d ≡ true
           → hearCall d told octets low high
           ≡ record {
-            answer = record { number = 0; index = 0; next = heardAfter d octets };
+            answer = record {
+              number = 0;
+              index = 0;
+              limited = overloads (ylsOf (inForce told) (d .low) octets) + overloads (yhsOf (d .high) octets);
+              next = heardAfter d octets;
+            };
             left = (rlsOf (inForce told) (d .low) octets, rhsOf (d .high) octets);
           }
       unfolding hearCall heard
@@ -104,27 +112,33 @@ module _ (d : Decoder) (low high samples : List ℤ) where
   abbrev unfit : Bool
   unfit = misfit (length samples) (length low) || not (eqb (length high) (length low))
 
-  pub join-3 : unfit ≡ true → joinCall d low high samples ≡ record { answer = record { number = 3; index = 0; next = d }; left = samples }
+  pub join-3 : unfit ≡ true
+      → joinCall d low high samples ≡ record { answer = record { number = 3; index = 0; limited = 0; next = d }; left = samples }
   unfolding joinCall notJoined
   join-3 n = rw n
 
   module _ (n : unfit ≡ false) where
     pub join-2 : goodDecoder d ≡ false
-        → joinCall d low high samples ≡ record { answer = record { number = 2; index = 0; next = d }; left = samples }
+        → joinCall d low high samples ≡ record { answer = record { number = 2; index = 0; limited = 0; next = d }; left = samples }
     unfolding joinCall notJoined
     join-2 g = rw (n, g)
 
     module _ (g : goodDecoder d ≡ true) where
       pub join-4 : ltb (firstBadPair low high) (length low) ≡ true
           → joinCall d low high samples
-          ≡ record { answer = record { number = 4; index = firstBadPair low high; next = d }; left = samples }
+          ≡ record { answer = record { number = 4; index = firstBadPair low high; limited = 0; next = d }; left = samples }
       unfolding joinCall notJoined
       join-4 b = rw (n, g, b)
 
       pub join-0 : ltb (firstBadPair low high) (length low) ≡ false
           → joinCall d low high samples
           ≡ record {
-            answer = record { number = 0; index = 0; next = joinedAfter d low high };
+            answer = record {
+              number = 0;
+              index = 0;
+              limited = overloads (joinedInFull (d .past) low high);
+              next = joinedAfter d low high;
+            };
             left = joinedOf (d .past) low high;
           }
       unfolding joinCall joined

@@ -1,5 +1,6 @@
 -- The meaning of G.722 (11/88) as SCOPE fixes it, in the Recommendation's order.
 pub mod Arithmetic
+pub mod Within
 pub mod Tables
 pub mod Words
 pub mod Quantise

@@ -4,7 +4,7 @@ use mathlib.Core.List.{List}
 use Prim.Native.Nat.{ℕ, zero, suc, _+_, _*_, _-_}
 use lib.IntN.{ℤ, pos, _+ℤ_, _-ℤ_, _*ℤ_}
 use lib.ListN.{getD}
-use Rattle.g722.specs.Arithmetic.{shr, limit}
+use Rattle.g722.specs.Arithmetic.{shr}
 use Rattle.g722.specs.Tables.{h}
 
 -- f 0 + f 1 + .. + f (n - 1)
@@ -27,12 +27,12 @@ accuma x = sum (λ (i : ℕ). coefficient (2 * i) *ℤ xin x (2 * i)) 12
 unfoldable pub accumb : List ℤ → ℤ
 accumb x = sum (λ (i : ℕ). coefficient (2 * i + 1) *ℤ xin x (2 * i + 1)) 12
 
--- LOWT and HIGHT
+-- LOWT and HIGHT, their first line: XL and XH in full. The second limits them
 unfoldable pub lowt : List ℤ → ℤ
-lowt x = limit (shr (accuma x +ℤ accumb x) 13)
+lowt x = shr (accuma x +ℤ accumb x) 13
 
 unfoldable pub hight : List ℤ → ℤ
-hight x = limit (shr (accuma x -ℤ accumb x) 13)
+hight x = shr (accuma x -ℤ accumb x) 13
 
 -- RECA and RECB: XDi and XSi of twelve pairs, oldest first
 unfoldable pub xd : List ℤ → List ℤ → ℕ → ℤ
@@ -41,9 +41,9 @@ xd rl rh i = getD rl (11 - i) (pos 0) -ℤ getD rh (11 - i) (pos 0)
 unfoldable pub xs : List ℤ → List ℤ → ℕ → ℤ
 xs rl rh i = getD rl (11 - i) (pos 0) +ℤ getD rh (11 - i) (pos 0)
 
--- ACCUMC and ACCUMD: XOUT1, the earlier sample, and XOUT2
+-- ACCUMC and ACCUMD, but for their last line, which limits: XOUT1, the earlier sample, and XOUT2 in full
 unfoldable pub accumc : List ℤ → List ℤ → ℤ
-accumc rl rh = limit (shr (sum (λ (i : ℕ). coefficient (2 * i) *ℤ xd rl rh i) 12) 12)
+accumc rl rh = shr (sum (λ (i : ℕ). coefficient (2 * i) *ℤ xd rl rh i) 12) 12
 
 unfoldable pub accumd : List ℤ → List ℤ → ℤ
-accumd rl rh = limit (shr (sum (λ (i : ℕ). coefficient (2 * i + 1) *ℤ xs rl rh i) 12) 12)
+accumd rl rh = shr (sum (λ (i : ℕ). coefficient (2 * i + 1) *ℤ xs rl rh i) 12) 12

@@ -2,7 +2,7 @@
 -- Assumes nothing.
 use mathlib.Core.List.{zipWith}
 use Rattle.laws.specs.Clamp.{clamp}
-use Rattle.g722.specs.Arithmetic.{add, sub, mul, limit, sameSign, within, equal}
+use Rattle.g722.specs.Arithmetic.{add, sub, mul, sameSign, within, equal, limit, limited, changes, overloads}
 use Rattle.g722.specs.Tables.{h, q6, qq6, qq5, qq4, wl, q2, qq2, wh, ila}
 use Rattle.g722.specs.Words.{toSix, fromFour, fromSix, fromFive, toTwo, fromTwo}
 use Rattle.g722.specs.Quantise.{level, atOrBelow, quantise, quantl, quanth, inverse, invqal, invqah, inForce, invqbl}
@@ -13,16 +13,16 @@ use Rattle.g722.specs.Mirror.{sum, coefficient, xin, accuma, accumb, low
 use Rattle.g722.specs.Octet.{octet}
 use Rattle.g722.specs.Records.{inRange, allInRange, goodPoles, goodFactors, goodLow, goodHigh, goodCoder, goodDecoder}
 use Rattle.g722.specs.Records.{resetBand, resetCoder, resetDecoder}
-use Rattle.g722.specs.Coding.{window, ilOf, ihOf, octetOf, coderStep, octetsOf, coderAfter}
+use Rattle.g722.specs.Coding.{window, ilOf, ihOf, octetOf, coderStep, octetsOf, coderAfter, splitInFull}
 use Rattle.g722.specs.Coding.{firstBad, misfit, notCoded, coded, codeCall}
-use Rattle.g722.specs.Decoding.{rlOf, rhOf, rlRow, rhRow, firstOf, secondOf, decoderStep, samplesOf, decoderAfter}
-use Rattle.g722.specs.Decoding.{notDecoded, decoded, decodeCall}
-use Rattle.g722.specs.Steps.{signalsOf, bandAfter, rlsOf, rhsOf, heardAfter, unpaired, notHeard, heard, hearCall}
-use Rattle.g722.specs.Steps.{pairsNext, joinedOf, pairsAfter, joinedAfter, firstBadPair, notJoined, joined, joinCall}
+use Rattle.g722.specs.Decoding.{ylOf, yhOf, rlOf, rhOf, rlRow, rhRow, firstOf, secondOf, decoderStep}
+use Rattle.g722.specs.Decoding.{samplesInFull, samplesOf, decoderAfter, notDecoded, decoded, decodeCall}
+use Rattle.g722.specs.Steps.{signalsOf, bandAfter, ylsOf, yhsOf, rlsOf, rhsOf, heardAfter, unpaired, notHeard, heard, hearCall}
+use Rattle.g722.specs.Steps.{pairsNext, joinedInFull, joinedOf, pairsAfter, joinedAfter, firstBadPair, notJoined, joined, joinCall}
 use Rattle.g722.specs.Cue.{bits, bitsOf, spelt, gathered, carrying, unfilled, dataNumber, dataCall, putCall, takeCall}
 
 unfoldable pub arithmetic : Unit {0}
-unfolding clamp add sub mul limit sameSign within equal
+unfolding clamp add sub mul sameSign within equal limit limited changes overloads
 arithmetic = tt
 
 unfoldable pub tables : Unit {0}
@@ -58,11 +58,11 @@ unfolding scaling inRange allInRange goodPoles goodFactors goodLow goodHigh good
 bounds = tt
 
 unfoldable pub coding : Unit {0}
-unfolding adapting filters bounds window ilOf ihOf octetOf coderStep octetsOf coderAfter firstBad misfit notCoded coded codeCall
+unfolding adapting filters bounds window ilOf ihOf octetOf coderStep octetsOf coderAfter splitInFull firstBad misfit notCoded coded codeCall
 coding = tt
 
 unfoldable pub hearing : Unit {0}
-unfolding adapting filters bounds rlOf rhOf rlRow rhRow firstOf secondOf decoderStep samplesOf decoderAfter
+unfolding adapting filters bounds ylOf yhOf rlOf rhOf rlRow rhRow firstOf secondOf decoderStep samplesInFull samplesOf decoderAfter
 hearing = tt
 
 unfoldable pub decoding : Unit {0}
@@ -71,11 +71,11 @@ decoding = tt
 
 -- its two steps
 unfoldable pub listening : Unit {0}
-unfolding hearing signalsOf bandAfter rlsOf rhsOf heardAfter unpaired notHeard heard hearCall
+unfolding hearing signalsOf bandAfter ylsOf yhsOf rlsOf rhsOf heardAfter unpaired notHeard heard hearCall
 listening = tt
 
 unfoldable pub joining : Unit {0}
-unfolding filters bounds firstBad misfit pairsNext joinedOf pairsAfter joinedAfter firstBadPair notJoined joined joinCall
+unfolding filters bounds firstBad misfit pairsNext joinedInFull joinedOf pairsAfter joinedAfter firstBadPair notJoined joined joinCall
 joining = tt
 
 unfoldable pub cueing : Unit {0}

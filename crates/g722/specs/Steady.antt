@@ -46,10 +46,10 @@ halved : (c : ℤ) → shr (pos 4096 *ℤ c +ℤ pos 4096 *ℤ c) 13 ≡ c
 halved (pos n) = ap pos (omega arith)
 halved (negsuc n) = let e : 4096 * suc n ≡ suc (4096 * n + 4095) = omega arith in rw e (ap negsuc (omega arith))
 
-pub steady-low : (c : ℤ) → neg 16384 ≤ℤ c → c ≤ℤ pos 16383 → lowt (steady c) ≡ c
+pub steady-low : (c : ℤ) → neg 16384 ≤ℤ c → c ≤ℤ pos 16383 → limit (lowt (steady c)) ≡ c
 unfolding lowt limit
 steady-low c l h = rw (steady-a c, steady-b c, halved c) (clamp-id (neg 16384) (pos 16383) c l h)
 
-pub steady-high : (c : ℤ) → hight (steady c) ≡ pos 0
+pub steady-high : (c : ℤ) → limit (hight (steady c)) ≡ pos 0
 unfolding hight limit clamp
 steady-high c = rw (steady-a c, steady-b c, +ℤ-invr (pos 4096 *ℤ c))

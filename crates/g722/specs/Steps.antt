@@ -1,19 +1,20 @@
 -- Decoding in two steps: octets to low and high signals, which moves both bands, and signals to samples, which moves the past pairs.
 -- Assumes nothing.
 use mathlib.Core.Bool.{Bool, cond, not, _||_}
-use mathlib.Core.List.{List, [], _∷_, _++_}
-use Prim.Native.Nat.{ℕ, min}
+use mathlib.Core.List.{List, [], _∷_, _++_, map}
+use Prim.Native.Nat.{ℕ, _+_, min}
 use lib.Dec.{ltb, eqb}
 use lib.IntN.{ℤ}
 use lib.ListN.{length, drop}
 use Rattle.laws.specs.Outcome.{Outcome}
+use Rattle.g722.specs.Arithmetic.{limit, overloads}
 use Rattle.g722.specs.Quantise.{inForce}
 use Rattle.g722.specs.Band.{lowAfter, highAfter}
 use Rattle.g722.specs.Mirror.{accumc, accumd}
 use Rattle.g722.specs.Octet.{highWord, lowWord}
 use Rattle.g722.specs.Records.{goodDecoder}
 use Rattle.g722.specs.Coding.{firstBad, misfit}
-use Rattle.g722.specs.Decoding.{rlOf, rhOf}
+use Rattle.g722.specs.Decoding.{ylOf, yhOf, rlOf, rhOf}
 use Rattle.g722.specs.declared.Band.{Band}
 use Rattle.g722.specs.declared.Pairs.{Pairs}
 use Rattle.g722.specs.declared.Decoder.{Decoder}
@@ -37,7 +38,13 @@ lowNext s o = lowAfter s (lowWord o)
 abbrev pub highNext : Band → ℕ → Band
 highNext s o = highAfter s (highWord o)
 
--- RL and RH of a run of octets, and the record after it: the past pairs stay
+-- YL and YH of a run of octets; RL and RH; and the record after it: the past pairs stay
+unfoldable pub ylsOf : ℕ → Band → List ℕ → List ℤ
+ylsOf mode s octets = signalsOf (ylOf mode) lowNext s octets
+
+unfoldable pub yhsOf : Band → List ℕ → List ℤ
+yhsOf s octets = signalsOf yhOf highNext s octets
+
 unfoldable pub rlsOf : ℕ → Band → List ℕ → List ℤ
 rlsOf mode s octets = signalsOf (rlOf mode) lowNext s octets
 
@@ -52,14 +59,16 @@ heardAfter d octets =
 unfoldable pub unpaired : ℕ → ℕ → ℕ → Bool
 unpaired octets low high = ltb 8000 octets || not (eqb low octets) || not (eqb high octets)
 
--- a refused call gives back the record and both signals as they came
+-- a refused call gives back the record and both signals as they came, and has no count
 unfoldable pub notHeard : ℕ → Decoder → List ℤ → List ℤ → Outcome Decoded (List ℤ × List ℤ)
-notHeard number d low high = record { answer = record { number = number; index = 0; next = d }; left = (low, high) }
+notHeard number d low high = record { answer = record { number = number; index = 0; limited = 0; next = d }; left = (low, high) }
 
+-- an accepted one counts the signals that were limited, low and high together
 unfoldable pub heard : ℕ → Decoder → List ℕ → Outcome Decoded (List ℤ × List ℤ)
 heard mode d octets =
+    let limited = overloads (ylsOf mode (d .low) octets) + overloads (yhsOf (d .high) octets) in
     record {
-      answer = record { number = 0; index = 0; next = heardAfter d octets };
+      answer = record { number = 0; index = 0; limited = limited; next = heardAfter d octets };
       left = (rlsOf mode (d .low) octets, rhsOf (d .high) octets);
     }
 
@@ -77,14 +86,17 @@ hearCall d told octets low high =
 unfoldable pub pairsNext : Pairs → ℤ → ℤ → Pairs
 pairsNext p x y = record { rl = drop 1 (p .rl ++ (x ∷ [])); rh = drop 1 (p .rh ++ (y ∷ [])) }
 
--- the samples of a run of pairs, and the past pairs after it
-unfoldable pub joinedOf : Pairs → List ℤ → List ℤ → List ℤ
-joinedOf p [] high = []
-joinedOf p (x ∷ low) [] = []
-joinedOf p (x ∷ low) (y ∷ high) =
+-- the samples of a run of pairs in full, and limited, and the past pairs after it
+unfoldable pub joinedInFull : Pairs → List ℤ → List ℤ → List ℤ
+joinedInFull p [] high = []
+joinedInFull p (x ∷ low) [] = []
+joinedInFull p (x ∷ low) (y ∷ high) =
     accumc (p .rl ++ (x ∷ [])) (p .rh ++ (y ∷ []))
     ∷ accumd (p .rl ++ (x ∷ [])) (p .rh ++ (y ∷ []))
-    ∷ joinedOf (pairsNext p x y) low high
+    ∷ joinedInFull (pairsNext p x y) low high
+
+unfoldable pub joinedOf : Pairs → List ℤ → List ℤ → List ℤ
+joinedOf p low high = map limit (joinedInFull p low high)
 
 unfoldable pub pairsAfter : Pairs → List ℤ → List ℤ → Pairs
 pairsAfter p [] high = p
@@ -99,13 +111,17 @@ joinedAfter d low high = record { low = d .low; high = d .high; past = pairsAfte
 unfoldable pub firstBadPair : List ℤ → List ℤ → ℕ
 firstBadPair low high = min (firstBad low) (firstBad high)
 
--- a refused call gives back the record and the samples as they came
+-- a refused call gives back the record and the samples as they came, and has no count
 unfoldable pub notJoined : ℕ → ℕ → Decoder → List ℤ → Outcome Decoded (List ℤ)
-notJoined number index d samples = record { answer = record { number = number; index = index; next = d }; left = samples }
+notJoined number index d samples = record { answer = record { number = number; index = index; limited = 0; next = d }; left = samples }
 
+-- an accepted one counts the samples that were limited
 unfoldable pub joined : Decoder → List ℤ → List ℤ → Outcome Decoded (List ℤ)
 joined d low high =
-    record { answer = record { number = 0; index = 0; next = joinedAfter d low high }; left = joinedOf (d .past) low high }
+    record {
+      answer = record { number = 0; index = 0; limited = overloads (joinedInFull (d .past) low high); next = joinedAfter d low high };
+      left = joinedOf (d .past) low high;
+    }
 
 -- a call of the second step, with as many high signals as low ones: 3, then 2, then 4 with the index of the first bad pair
 unfoldable pub joinCall : Decoder → List ℤ → List ℤ → List ℤ → Outcome Decoded (List ℤ)

@@ -46,10 +46,10 @@ sums1to12 =
     ∷ (moves (putCall 2 (replicate 8 0xFA) (0x81 ∷ []))
     gives these (0 ∷ 0 ∷ 0xFB ∷ 0xFA ∷ 0xFA ∷ 0xFA ∷ 0xFA ∷ 0xFA ∷ 0xFA ∷ 0xFB ∷ []))
     -- 11
-    ∷ (codes resetCoder (pos 16384 ∷ pos 0 ∷ []) (7 ∷ []) gives these (4 ∷ 0 ∷ 7 ∷ []))
+    ∷ (codes resetCoder (pos 16384 ∷ pos 0 ∷ []) (7 ∷ []) gives these (4 ∷ 0 ∷ 0 ∷ 7 ∷ []))
     ∷ ((pos (codeCall resetCoder (pos 16383 ∷ neg 16384 ∷ []) (7 ∷ []) .answer .number) ∷ []) gives (pos 0 ∷ []))
     -- 12
-    ∷ (decodes resetDecoder 4 (0xFA ∷ []) (pos 1 ∷ pos 2 ∷ pos 3 ∷ []) gives these (1 ∷ 0 ∷ 1 ∷ 2 ∷ 3 ∷ []))
+    ∷ (decodes resetDecoder 4 (0xFA ∷ []) (pos 1 ∷ pos 2 ∷ pos 3 ∷ []) gives these (1 ∷ 0 ∷ 0 ∷ 1 ∷ 2 ∷ 3 ∷ []))
     ∷ []
 
 pub sums-hold : Hold sums1to12

@@ -1,14 +1,14 @@
 -- Cases of ours that tell a wrong definition, table by table.
 -- Each value was worked out by hand or by a model, and not by these definitions.
 -- Assumes nothing.
-use mathlib.Core.Path.{refl}
+use mathlib.Core.Path.{_≡_, refl}
 use mathlib.Core.Bool.{cond}
 use mathlib.Core.List.{List, [], _∷_, _++_, map}
-use Prim.Native.Nat.{ℕ, _*_}
+use Prim.Native.Nat.{ℕ, _*_, _-_, _/_}
 use lib.IntN.{ℤ, pos, negℤ}
 use lib.ListN.{length, drop, take, replicate}
 use lib.Signed.{mag}
-use Rattle.g722.specs.Arithmetic.{neg, mul, limit, negative, sameSign}
+use Rattle.g722.specs.Arithmetic.{neg, mul, negative, sameSign, limited, overloads}
 use Rattle.g722.specs.Tables.{h, q6}
 use Rattle.g722.specs.Quantise.{subtra, level, quantise, quanth, invqal, invqah, invqbl, logscl, logsch}
 use Rattle.g722.specs.Band.{slide, sums, filtep, predic, parrec, recons, upzero, four, turned, uppol2, uppol1, nextPoles, nextBand}
@@ -16,7 +16,7 @@ use Rattle.g722.specs.Band.{lowAfter, highAfter}
 use Rattle.g722.specs.Mirror.{lowt, hight, accumc, accumd}
 use Rattle.g722.specs.Octet.{highWord}
 use Rattle.g722.specs.Records.{resetBand, resetCoder, resetDecoder}
-use Rattle.g722.specs.Coding.{coderStep, misfit, codeCall}
+use Rattle.g722.specs.Coding.{window, ilOf, ihOf, coderStep, splitInFull, misfit, codeCall}
 use Rattle.g722.specs.Decoding.{rlOf, rhOf, decoderStep, decodeCall}
 use Rattle.g722.specs.Steps.{hearCall, joinCall}
 use Rattle.g722.specs.Cue.{unfilled, putCall, takeCall}
@@ -198,6 +198,31 @@ twoHeard = hearCall full 1 (take 2 twelve) (pos 0 ∷ pos 0 ∷ []) (pos 0 ∷ p
 abbrev oneJoined : Decoder
 oneJoined = joinCall full (pos 5 ∷ []) (pos 6 ∷ []) (pos 0 ∷ pos 0 ∷ []) .answer .next
 
+-- a coder and a decoder with their whole past; and a band whose prediction is -16362 or -16361, or near the upper end
+abbrev coderOn : Band → Band → List ℤ → Coder
+coderOn l r past = record { low = l; high = r; past = past }
+
+abbrev decoderOn : List ℤ → List ℤ → Decoder
+decoderOn rl rh = record { low = low; high = high; past = record { rl = take 11 rl; rh = take 11 rh } }
+
+abbrev nearly : ℤ → ℤ → ℤ → Band
+nearly r1 r2 scale = band (poles (pos 27648) (neg 12288) r1 r2 (pos 0) (pos 0)) (pos 0) scale
+
+-- twelve, the sixth of which is not zero
+abbrev sixth : ℤ → List ℤ
+sixth x = replicate 5 (pos 0) ++ (x ∷ replicate 6 (pos 0))
+
+-- what is said of coding the samples behind the 22 first; of one octet heard near the lower end; of the last of twelve pairs joined
+abbrev lampCoding : List ℤ → List ℤ
+lampCoding xs = take 3 (codes (coderOn low high (take 22 xs)) (drop 22 xs) (replicate ((length xs - 22) / 2) 7))
+
+abbrev lampHearing : ℤ → ℕ → List ℤ
+lampHearing r2 told =
+    hears (decoder (nearly (neg 16384) (negℤ r2) (pos 32)) high (pos 0) (pos 0)) told (0x04 ∷ []) (pos 5 ∷ []) (pos 6 ∷ [])
+
+abbrev lampJoining : List ℤ → List ℤ → List ℤ
+lampJoining rl rh = joins (decoderOn rl rh) (drop 11 rl) (drop 11 rh) (pos 5 ∷ pos 6 ∷ [])
+
 -- the second step over what the first gives
 abbrev inTwoSteps : Decoder → ℕ → List ℕ → List ℤ
 inTwoSteps d told octets =
@@ -207,13 +232,19 @@ inTwoSteps d told octets =
 
 -- ---- the cases
 
--- a product rounds down, its one overflow is 32767, sizes are not negations, and the limits hold at both ends
+-- a product rounds down, its one overflow is 32767, sizes are not negations, the limits hold at both ends, and there a
+-- value is not changed
 pub arithmetic : List Case
 arithmetic =
     ((mul (neg 1616) (pos 8) ∷ mul (neg 32768) (neg 32768) ∷ []) gives (neg 1 ∷ pos 32767 ∷ []))
     ∷ (these (mag (neg 1) ∷ mag (neg 32768) ∷ []) gives these (0 ∷ 32767 ∷ []))
-    ∷ ((limit (neg 16385) ∷ limit (neg 16384) ∷ limit (pos 16383) ∷ limit (pos 16384) ∷ [])
+    ∷ ((limited (neg 16385) .value ∷ limited (neg 16384) .value ∷ limited (pos 16383) .value ∷ limited (pos 16384) .value ∷ [])
     gives (neg 16384 ∷ neg 16384 ∷ pos 16383 ∷ pos 16383 ∷ []))
+    ∷ (truths (limited (neg 16385) .changed ∷ limited (neg 16384) .changed
+    ∷ limited (pos 16383) .changed ∷ limited (pos 16384) .changed ∷ [])
+    gives these (1 ∷ 0 ∷ 0 ∷ 1 ∷ []))
+    ∷ (these (overloads (neg 16385 ∷ neg 16384 ∷ pos 0 ∷ pos 16383 ∷ pos 16384 ∷ pos 32767 ∷ []) ∷ overloads [] ∷ [])
+    gives these (3 ∷ 0 ∷ []))
     ∷ (truths (sameSign (pos 0) (pos 1) ∷ sameSign (neg 1) (pos 0) ∷ sameSign (neg 1) (neg 2) ∷ []) gives these (1 ∷ 0 ∷ 1 ∷ []))
     ∷ []
 
@@ -288,16 +319,16 @@ pub adapting-hold : Hold adapting
 unfolding adapting meaning
 adapting-hold = all-hold adapting refl
 
--- both filters limit at both ends, and the newest and the oldest meet H0 and H23
+-- both filters in full, beyond the range at both ends, and the newest and the oldest meet H0 and H23
 pub filters : List Case
 filters =
-    ((lowt (loudest h) ∷ lowt (loudest (turnedRound h)) ∷ []) gives (pos 16383 ∷ neg 16384 ∷ []))
-    ∷ ((hight (loudest (alternating h)) ∷ hight (loudest (turnedRound (alternating h))) ∷ []) gives (pos 16383 ∷ neg 16384 ∷ []))
+    ((lowt (loudest h) ∷ lowt (loudest (turnedRound h)) ∷ []) gives (pos 25926 ∷ neg 25928 ∷ []))
+    ∷ ((hight (loudest (alternating h)) ∷ hight (loudest (turnedRound (alternating h))) ∷ []) gives (pos 25927 ∷ neg 25928 ∷ []))
     ∷ ((lowt firstOf24 ∷ hight firstOf24 ∷ lowt lastOf24 ∷ hight lastOf24 ∷ []) gives (pos 5 ∷ neg 6 ∷ pos 5 ∷ pos 5 ∷ []))
     ∷ ((accumc (loudest (odds h)) (loudest (turnedRound (odds h))) ∷ accumc (loudest (turnedRound (odds h))) (loudest (odds h)) ∷ [])
-    gives (pos 16383 ∷ neg 16384 ∷ []))
+    gives (pos 51854 ∷ neg 51855 ∷ []))
     ∷ ((accumd (loudest (evens h)) (loudest (evens h)) ∷ accumd (loudest (turnedRound (evens h))) (loudest (turnedRound (evens h))) ∷ [])
-    gives (pos 16383 ∷ neg 16384 ∷ []))
+    gives (pos 51853 ∷ neg 51856 ∷ []))
     ∷ (outputs lastOf12 zeros ++ outputs zeros lastOf12 gives (pos 11 ∷ neg 44 ∷ neg 12 ∷ neg 44 ∷ []))
     ∷ (outputs firstOf12 zeros ++ outputs zeros firstOf12 gives (neg 44 ∷ pos 11 ∷ pos 43 ∷ pos 11 ∷ []))
     ∷ []
@@ -394,14 +425,14 @@ bounds-hold = all-hold bounds refl
 -- the record comes back; an accepted call's index is 0
 pub refusals : List Case
 refusals =
-    (codes (coder (lowWith (pos 0) (pos 12289)) high (pos 0)) (pos 16384 ∷ []) (7 ∷ []) gives these (3 ∷ 0 ∷ 7 ∷ []))
-    ∷ (codes (coder (lowWith (pos 0) (pos 12289)) high (pos 0)) (pos 16384 ∷ pos 0 ∷ []) (7 ∷ []) gives these (2 ∷ 0 ∷ 7 ∷ []))
-    ∷ (codes resetCoder (pos 0 ∷ neg 16385 ∷ []) (7 ∷ []) gives these (4 ∷ 1 ∷ 7 ∷ []))
-    ∷ (codes resetCoder (pos 0 ∷ pos 0 ∷ []) (7 ∷ []) gives these (0 ∷ 0 ∷ 0xFA ∷ []))
-    ∷ (decodes (decoder (resetBand (pos 0)) high (pos 0) (pos 0)) 4 [] (pos 5 ∷ []) gives these (1 ∷ 0 ∷ 5 ∷ []))
-    ∷ (decodes (decoder (resetBand (pos 0)) high (pos 0) (pos 0)) 3 [] (pos 5 ∷ []) gives these (3 ∷ 0 ∷ 5 ∷ []))
-    ∷ (decodes (decoder (resetBand (pos 0)) high (pos 0) (pos 0)) 3 (0xFA ∷ []) (pos 5 ∷ pos 6 ∷ []) gives these (2 ∷ 0 ∷ 5 ∷ 6 ∷ []))
-    ∷ (decodes resetDecoder 1 (0xFA ∷ []) (pos 5 ∷ pos 6 ∷ []) gives (pos 0 ∷ pos 0 ∷ pos 0 ∷ neg 1 ∷ []))
+    (codes (coder (lowWith (pos 0) (pos 12289)) high (pos 0)) (pos 16384 ∷ []) (7 ∷ []) gives these (3 ∷ 0 ∷ 0 ∷ 7 ∷ []))
+    ∷ (codes (coder (lowWith (pos 0) (pos 12289)) high (pos 0)) (pos 16384 ∷ pos 0 ∷ []) (7 ∷ []) gives these (2 ∷ 0 ∷ 0 ∷ 7 ∷ []))
+    ∷ (codes resetCoder (pos 0 ∷ neg 16385 ∷ []) (7 ∷ []) gives these (4 ∷ 1 ∷ 0 ∷ 7 ∷ []))
+    ∷ (codes resetCoder (pos 0 ∷ pos 0 ∷ []) (7 ∷ []) gives these (0 ∷ 0 ∷ 0 ∷ 0xFA ∷ []))
+    ∷ (decodes (decoder (resetBand (pos 0)) high (pos 0) (pos 0)) 4 [] (pos 5 ∷ []) gives these (1 ∷ 0 ∷ 0 ∷ 5 ∷ []))
+    ∷ (decodes (decoder (resetBand (pos 0)) high (pos 0) (pos 0)) 3 [] (pos 5 ∷ []) gives these (3 ∷ 0 ∷ 0 ∷ 5 ∷ []))
+    ∷ (decodes (decoder (resetBand (pos 0)) high (pos 0) (pos 0)) 3 (0xFA ∷ []) (pos 5 ∷ pos 6 ∷ []) gives these (2 ∷ 0 ∷ 0 ∷ 5 ∷ 6 ∷ []))
+    ∷ (decodes resetDecoder 1 (0xFA ∷ []) (pos 5 ∷ pos 6 ∷ []) gives (pos 0 ∷ pos 0 ∷ pos 0 ∷ pos 0 ∷ neg 1 ∷ []))
     ∷ (flat (codeCall (coder swung high (pos 0)) (pos 16384 ∷ pos 0 ∷ []) (7 ∷ []) .answer .next .low) gives flat swung)
     ∷ (flat (decodeCall (decoder swung high (pos 0) (pos 0)) 4 [] [] .answer .next .low) gives flat swung)
     ∷ (truths (misfit 16000 8000 ∷ misfit 16002 8001 ∷ misfit 15999 8000 ∷ misfit 16001 8000 ∷ []) gives these (0 ∷ 1 ∷ 1 ∷ 1 ∷ []))
@@ -415,19 +446,19 @@ refusals-hold = all-hold refusals refl
 -- leaves the past pairs
 pub hearing : List Case
 hearing =
-    (hears broken 4 [] (pos 5 ∷ []) (pos 6 ∷ []) gives these (1 ∷ 0 ∷ 5 ∷ 6 ∷ []))
-    ∷ (hears broken 3 [] (pos 5 ∷ []) [] gives these (3 ∷ 0 ∷ 5 ∷ []))
-    ∷ (hears broken 3 [] [] (pos 6 ∷ []) gives these (3 ∷ 0 ∷ 6 ∷ []))
-    ∷ (hears broken 3 (0xFA ∷ []) (pos 5 ∷ []) (pos 6 ∷ []) gives these (2 ∷ 0 ∷ 5 ∷ 6 ∷ []))
+    (hears broken 4 [] (pos 5 ∷ []) (pos 6 ∷ []) gives these (1 ∷ 0 ∷ 0 ∷ 5 ∷ 6 ∷ []))
+    ∷ (hears broken 3 [] (pos 5 ∷ []) [] gives these (3 ∷ 0 ∷ 0 ∷ 5 ∷ []))
+    ∷ (hears broken 3 [] [] (pos 6 ∷ []) gives these (3 ∷ 0 ∷ 0 ∷ 6 ∷ []))
+    ∷ (hears broken 3 (0xFA ∷ []) (pos 5 ∷ []) (pos 6 ∷ []) gives these (2 ∷ 0 ∷ 0 ∷ 5 ∷ 6 ∷ []))
     ∷ (these (hearCall resetDecoder 1 (replicate 8001 0) (replicate 8001 (pos 0)) (replicate 8001 (pos 0)) .answer .number ∷ [])
     gives these (3 ∷ []))
-    ∷ (hearsTwelve 0 gives (pos 0 ∷ pos 0 ∷ low1 ++ highs))
-    ∷ (hearsTwelve 1 gives (pos 0 ∷ pos 0 ∷ low1 ++ highs))
-    ∷ (hearsTwelve 2 gives (pos 0 ∷ pos 0 ∷ low2 ++ highs))
-    ∷ (hearsTwelve 3 gives (pos 0 ∷ pos 0 ∷ low3 ++ highs))
-    ∷ (hears full 1 (0x20 ∷ []) (pos 5 ∷ []) (pos 6 ∷ []) gives (pos 0 ∷ pos 0 ∷ pos 16383 ∷ neg 16384 ∷ []))
+    ∷ (hearsTwelve 0 gives (pos 0 ∷ pos 0 ∷ pos 0 ∷ low1 ++ highs))
+    ∷ (hearsTwelve 1 gives (pos 0 ∷ pos 0 ∷ pos 0 ∷ low1 ++ highs))
+    ∷ (hearsTwelve 2 gives (pos 0 ∷ pos 0 ∷ pos 0 ∷ low2 ++ highs))
+    ∷ (hearsTwelve 3 gives (pos 0 ∷ pos 0 ∷ pos 0 ∷ low3 ++ highs))
+    ∷ (hears full 1 (0x20 ∷ []) (pos 5 ∷ []) (pos 6 ∷ []) gives (pos 0 ∷ pos 0 ∷ pos 2 ∷ pos 16383 ∷ neg 16384 ∷ []))
     ∷ (hears (decoder (down (pos 32)) (up (pos 8)) (pos 0) (pos 0)) 1 (0x84 ∷ []) (pos 5 ∷ []) (pos 6 ∷ [])
-    gives (pos 0 ∷ pos 0 ∷ neg 16384 ∷ pos 16383 ∷ []))
+    gives (pos 0 ∷ pos 0 ∷ pos 2 ∷ neg 16384 ∷ pos 16383 ∷ []))
     ∷ (flat (twoHeard .low) ++ flat (twoHeard .high)
     gives flat (decoderStep 1 (decoderStep 1 full 0x04) 0x20 .low) ++ flat (decoderStep 1 (decoderStep 1 full 0x04) 0x20 .high))
     ∷ (twoHeard .past .rl ++ twoHeard .past .rh gives full .past .rl ++ full .past .rh)
@@ -442,16 +473,16 @@ hearing-hold = all-hold hearing refl
 -- what was heard and is joined is what is decoded
 pub joining : List Case
 joining =
-    (joins broken (pos 16384 ∷ []) (pos 0 ∷ []) (pos 5 ∷ []) gives these (3 ∷ 0 ∷ 5 ∷ []))
-    ∷ (joins broken (pos 16384 ∷ []) [] (pos 5 ∷ pos 6 ∷ []) gives these (3 ∷ 0 ∷ 5 ∷ 6 ∷ []))
-    ∷ (joins broken (pos 16384 ∷ []) (pos 0 ∷ []) (pos 5 ∷ pos 6 ∷ []) gives these (2 ∷ 0 ∷ 5 ∷ 6 ∷ []))
-    ∷ (joins full (pos 0 ∷ pos 0 ∷ []) (pos 0 ∷ neg 16385 ∷ []) (replicate 4 (pos 5)) gives these (4 ∷ 1 ∷ 5 ∷ 5 ∷ 5 ∷ 5 ∷ []))
+    (joins broken (pos 16384 ∷ []) (pos 0 ∷ []) (pos 5 ∷ []) gives these (3 ∷ 0 ∷ 0 ∷ 5 ∷ []))
+    ∷ (joins broken (pos 16384 ∷ []) [] (pos 5 ∷ pos 6 ∷ []) gives these (3 ∷ 0 ∷ 0 ∷ 5 ∷ 6 ∷ []))
+    ∷ (joins broken (pos 16384 ∷ []) (pos 0 ∷ []) (pos 5 ∷ pos 6 ∷ []) gives these (2 ∷ 0 ∷ 0 ∷ 5 ∷ 6 ∷ []))
+    ∷ (joins full (pos 0 ∷ pos 0 ∷ []) (pos 0 ∷ neg 16385 ∷ []) (replicate 4 (pos 5)) gives these (4 ∷ 1 ∷ 0 ∷ 5 ∷ 5 ∷ 5 ∷ 5 ∷ []))
     ∷ (these (joinCall resetDecoder (replicate 8001 (pos 0)) (replicate 8001 (pos 0)) (replicate 16002 (pos 0)) .answer .number ∷ [])
     gives these (3 ∷ []))
-    ∷ (joins resetDecoder [] [] [] gives these (0 ∷ 0 ∷ []))
+    ∷ (joins resetDecoder [] [] [] gives these (0 ∷ 0 ∷ 0 ∷ []))
     ∷ (joins resetDecoder (pos 16383 ∷ neg 16384 ∷ pos 5000 ∷ neg 7 ∷ []) (neg 16384 ∷ pos 16383 ∷ pos 3000 ∷ pos 9 ∷ [])
     (replicate 8 (pos 5))
-    gives (pos 0 ∷ pos 0 ∷ pos 23 ∷ pos 0 ∷ neg 112 ∷ neg 1 ∷ pos 185 ∷ neg 22 ∷ pos 154 ∷ pos 103 ∷ []))
+    gives (pos 0 ∷ pos 0 ∷ pos 0 ∷ pos 23 ∷ pos 0 ∷ neg 112 ∷ neg 1 ∷ pos 185 ∷ neg 22 ∷ pos 154 ∷ pos 103 ∷ []))
     ∷ (flat (oneJoined .low) ++ flat (oneJoined .high) gives flat (full .low) ++ flat (full .high))
     ∷ (oneJoined .past .rl ++ oneJoined .past .rh gives replicate 10 (pos 0) ++ (pos 5 ∷ replicate 9 (pos 0)) ++ (pos 4 ∷ pos 6 ∷ []))
     ∷ (flat (joinCall full [] [] (pos 5 ∷ []) .answer .next .low) gives flat (full .low))
@@ -462,6 +493,62 @@ joining =
 pub joining-hold : Hold joining
 unfolding joining meaning
 joining-hold = all-hold joining refl
+
+-- XL and XH are coded limited, and counted where that changed them: each alone, both, and neither where XL reaches 16383 exactly
+pub lampOfCoding : List Case
+lampOfCoding =
+    (these (ilOf (coderOn (up (pos 16384)) high (take 22 (loudest h))) (neg 16384) (pos 16383)
+    ∷ ihOf (coderOn low (nearly (pos 16384) (pos 15048) (pos 16384)) (take 22 (loudest (alternating h)))) (pos 16383) (pos 16383) ∷ [])
+    gives these (4 ∷ 3 ∷ []))
+    ∷ (lampCoding (loudest h) gives these (0 ∷ 0 ∷ 1 ∷ []))
+    ∷ (lampCoding (loudest (turnedRound (alternating h))) gives these (0 ∷ 0 ∷ 1 ∷ []))
+    ∷ (lampCoding (replicate 24 (pos 16383)) gives these (0 ∷ 0 ∷ 0 ∷ []))
+    ∷ (lampCoding (loudest h ++ (pos 0 ∷ pos 0 ∷ [])) gives these (0 ∷ 0 ∷ 1 ∷ []))
+    ∷ []
+
+pub lampOfCoding-hold : Hold lampOfCoding
+unfolding lampOfCoding meaning
+lampOfCoding-hold = all-hold lampOfCoding refl
+
+-- and of any run, what is counted are XL and XH of the windows that are coded
+pub counted-are-coded : (c : Coder) (x y : ℤ) (rest : List ℤ)
+    → splitInFull (c .past) (x ∷ y ∷ rest) ≡ lowt (window c x y) ∷ hight (window c x y) ∷ splitInFull (coderStep c x y .past) rest
+unfolding splitInFull window coderStep
+counted-are-coded c x y rest = refl
+
+-- YL as the mode has it is counted, and not what the loop keeps, which is in range here; where it reaches -16384 exactly it is not
+-- counted; nor is what an earlier call counted
+pub lampOfHearing : List Case
+lampOfHearing =
+    (lampHearing (pos 15048) 1 gives (pos 0 ∷ pos 0 ∷ pos 1 ∷ neg 16384 ∷ neg 2 ∷ []))
+    ∷ (lampHearing (pos 15048) 3 gives (pos 0 ∷ pos 0 ∷ pos 0 ∷ neg 16382 ∷ neg 2 ∷ []))
+    ∷ (lampHearing (pos 15050) 2 gives (pos 0 ∷ pos 0 ∷ pos 0 ∷ neg 16384 ∷ neg 2 ∷ []))
+    ∷ (hears (decoder low (down (pos 8)) (pos 0) (pos 0)) 1 (0x04 ∷ []) (pos 5 ∷ []) (pos 6 ∷ [])
+    gives (pos 0 ∷ pos 0 ∷ pos 1 ∷ neg 25 ∷ neg 16384 ∷ []))
+    ∷ (hears (hearCall full 1 (0x20 ∷ []) (pos 0 ∷ []) (pos 0 ∷ []) .answer .next) 1 [] [] [] gives these (0 ∷ 0 ∷ 0 ∷ []))
+    ∷ []
+
+pub lampOfHearing-hold : Hold lampOfHearing
+unfolding lampOfHearing meaning
+lampOfHearing-hold = all-hold lampOfHearing refl
+
+-- each sample alone is limited and counted, at either end; 16383 reached exactly is not counted, and one more is; decoding counts
+-- as its second step does, and not what was limited in the first
+pub lampOfJoining : List Case
+lampOfJoining =
+    (lampJoining (loudest (odds h)) (loudest (turnedRound (odds h))) gives (pos 0 ∷ pos 0 ∷ pos 1 ∷ pos 16383 ∷ neg 1 ∷ []))
+    ∷ (lampJoining (loudest (turnedRound (evens h))) (loudest (turnedRound (evens h)))
+    gives (pos 0 ∷ pos 0 ∷ pos 1 ∷ pos 0 ∷ neg 16384 ∷ []))
+    ∷ (lampJoining (sixth (pos 16383)) (sixth (neg 930)) gives (pos 0 ∷ pos 0 ∷ pos 0 ∷ pos 16383 ∷ pos 3587 ∷ []))
+    ∷ (lampJoining (sixth (pos 16383)) (sixth (neg 931)) gives (pos 0 ∷ pos 0 ∷ pos 1 ∷ pos 16383 ∷ pos 3587 ∷ []))
+    ∷ (decodes (decoderOn (sixth (pos 16383)) (sixth (neg 931))) 1 (0x04 ∷ []) (pos 0 ∷ pos 0 ∷ [])
+    gives (pos 0 ∷ pos 0 ∷ pos 1 ∷ pos 16383 ∷ pos 3587 ∷ []))
+    ∷ (take 3 (decodes full 1 (0x20 ∷ []) (pos 0 ∷ pos 0 ∷ [])) gives these (0 ∷ 0 ∷ 0 ∷ []))
+    ∷ []
+
+pub lampOfJoining-hold : Hold lampOfJoining
+unfolding lampOfJoining meaning
+lampOfJoining-hold = all-hold lampOfJoining refl
 
 -- data calls 1, 5, 3; data must fill the octets; and taking out what sums 9 and 10 put in
 pub cueing : List Case

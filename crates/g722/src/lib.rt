@@ -56,16 +56,25 @@ pub struct Interval {
     pub number: u8,
 }
 
-// The answers: the number of SCOPE 7, the index that number 4 gives a place (SCOPE 11), and the next record.
+// A signal limited to -16384..16383, and whether that changed it.
+pub struct Limited {
+    pub value: i16,
+    pub changed: bool,
+}
+
+// The answers: the number of SCOPE 7, the index that number 4 gives a place (SCOPE 11), how many values were limited (SCOPE 86), and the
+// next record.
 pub struct Coded {
     pub number: u8,
     pub index: usize,
+    pub limited: u32,
     pub next: Coder,
 }
 
 pub struct Decoded {
     pub number: u8,
     pub index: usize,
+    pub limited: u32,
     pub next: Decoder,
 }
 

@@ -23,17 +23,20 @@ use Rattle.host.specs.Calls.{stateAfter}
 
 -- ---- a call on a record, between reading and writing its state: one law for both records, whatever else is lent
 
-module _ {A L : Type 0} (number index : A → ℕ) (bytes : A → List ℕ) (state : List ℕ) (x : Outcome A L) where
+module _ {A L : Type 0} (number index count : A → ℕ) (bytes : A → List ℕ) (state : List ℕ) (x : Outcome A L) where
+  abbrev said : A → ℕ
+  said a = packed (number a) (index a) (count a)
+
   abbrev hosted : Outcome ℕ (List ℕ × L)
   hosted =
       record {
-        answer = packed (number (x .answer)) (index (x .answer));
+        answer = said (x .answer);
         left = (stateAfter (number (x .answer)) (bytes (x .answer)) state, x .left);
       }
 
-  module _ {r : A} {left : L} {word : ℕ} (did : Does x r left) (said : word ≡ packed (number r) (index r)) where
-    spoken : word ≡ packed (number (x .answer)) (index (x .answer))
-    spoken = said ∙ ap (λ (a : A). packed (number a) (index a)) (did .answer)
+  module _ {r : A} {left : L} {word : ℕ} (did : Does x r left) (told : word ≡ said r) where
+    spoken : word ≡ said (x .answer)
+    spoken = told ∙ ap said (did .answer)
 
     -- an accepted call has its state written
     pub moves : {wrote : Bool} {next : List ℕ} → number r ≡ 0 → length state ≡ 125 → Does (writeCall (bytes r) state) wrote next

@@ -21,7 +21,7 @@ stateAfter number next state = cond (eqb number 0) next state
 unfoldable pub afterCoding : List ℕ → Outcome Coded (List ℕ) → Outcome ℕ (List ℕ × List ℕ)
 afterCoding state x =
     record {
-      answer = packed (x .answer .number) (x .answer .index);
+      answer = packed (x .answer .number) (x .answer .index) (x .answer .limited);
       left = (stateAfter (x .answer .number) (coderBytes (x .answer .next)) state, x .left);
     }
 
@@ -31,16 +31,16 @@ codeBytes state samples octets = afterCoding state (encodeChunk (coderIn state) 
 unfoldable pub afterDecoding : {L : Type 0} → List ℕ → Outcome Decoded L → Outcome ℕ (List ℕ × L)
 afterDecoding state x =
     record {
-      answer = packed (x .answer .number) (x .answer .index);
+      answer = packed (x .answer .number) (x .answer .index) (x .answer .limited);
       left = (stateAfter (x .answer .number) (decoderBytes (x .answer .next)) state, x .left);
     }
 
 unfoldable pub decodeBytes : List ℕ → ℕ → List ℕ → List ℕ → Outcome ℕ (List ℕ × List ℕ)
 decodeBytes state told octets samples = afterDecoding state (decodeChunk (decoderIn state) told octets samples)
 
--- data calls have no state
+-- data calls have no state, and nothing to limit
 unfoldable pub afterData : Outcome Moved (List ℕ) → Outcome ℕ (List ℕ)
-afterData x = record { answer = packed (x .answer .number) (x .answer .index); left = x .left }
+afterData x = record { answer = packed (x .answer .number) (x .answer .index) 0; left = x .left }
 
 unfoldable pub putBytes : ℕ → List ℕ → List ℕ → Outcome ℕ (List ℕ)
 putBytes mode octets bytes = afterData (putCall mode octets bytes)

@@ -1,8 +1,8 @@
 -- Worked calls of a host, accepted and refused, which the prover computes: they tell the definitions here from others.
 -- Assumes nothing.
 use mathlib.Core.Path.{_≡_, refl}
-use mathlib.Core.List.{List, [], _∷_}
-use Prim.Native.Nat.{ℕ}
+use mathlib.Core.List.{List, [], _∷_, _++_}
+use Prim.Native.Nat.{ℕ, _^_}
 use lib.ListN.{take, drop, replicate}
 use Rattle.g722.specs.Opened.{meaning}
 use Rattle.pcm.specs.Bytes.{sampleOf, pcmSamples, wordOf, highOf, lowOf, pcmBytes}
@@ -25,6 +25,13 @@ code-accepted : let x = codeBytes (resetBytes 1) (0 ∷ 0 ∷ 3 ∷ 132 ∷ []) 
     (x .answer ≡ 0) × (drop 121 (x .left .0) ≡ 0 ∷ 0 ∷ 3 ∷ 132 ∷ []) × (x .left .1 ≡ 0xFA ∷ [])
 unfolding opened afterCoding
 code-accepted = (refl, refl, refl)
+
+-- the four samples in the filter's middle are 16383, so XL is 19306 in full and XH is 0: one value is limited
+code-limited : let loud : List ℕ = 63 ∷ 255 ∷ 63 ∷ 255 ∷ 63 ∷ 255 ∷ 63 ∷ 255 ∷ [] in
+    let x = codeBytes (take 101 (resetBytes 1) ++ (loud ++ replicate 16 0)) (replicate 4 0) (7 ∷ []) in
+    (x .answer ≡ 2 ^ 32) × (drop 97 (x .left .0) ≡ loud ++ replicate 20 0) × (x .left .1 ≡ 0xE0 ∷ [])
+unfolding opened afterCoding
+code-limited = (refl, refl, refl)
 
 -- the second of 5 and 16384 is out of range: number 4, index 1
 code-refused : codeBytes (resetBytes 1) (0 ∷ 5 ∷ 64 ∷ 0 ∷ []) (7 ∷ []) ≡ record { answer = 260; left = (resetBytes 1, 7 ∷ []) }

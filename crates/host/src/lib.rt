@@ -12,12 +12,12 @@ use state::read_decoder;
 use state::write_coder;
 use state::write_decoder;
 
-// A number and an index in one word.
-fn packed(number: u8, index: usize) -> u64
+// A number, an index and a count in one word.
+fn packed(number: u8, index: usize, limited: u32) -> u64
     requires { ⌜ index < 2 ^ 24 ⌝ }
-    ensures { λ r. ⌜ r ≡ packed number index ⌝ }
+    ensures { λ r. ⌜ r ≡ packed number index limited ⌝ }
 {
-    number as u64 + 256 * (index as u64)
+    number as u64 + 256 * (index as u64) + 4294967296 * (limited as u64)
 }
 
 // Codes 4n bytes of samples to n octets.
@@ -27,7 +27,7 @@ pub extern "C" fn zelcandry_code(state: &mut [u8], samples: &[u8], octets: &mut 
         (now (state .exit), now (octets .exit)) ⌝ }
 {
     let a = encode_chunk(read_coder(state), samples, octets);
-    let answer = packed(a.number, a.index);
+    let answer = packed(a.number, a.index, a.limited);
     if a.number == 0 {
         write_coder(a.next, state);
     }
@@ -46,7 +46,7 @@ pub extern "C" fn zelcandry_decode(
         (now (state .exit), now (samples .exit)) ⌝ }
 {
     let a = decode_chunk(read_decoder(state), mode, octets, samples);
-    let answer = packed(a.number, a.index);
+    let answer = packed(a.number, a.index, a.limited);
     if a.number == 0 {
         write_decoder(a.next, state);
     }
@@ -59,7 +59,7 @@ pub extern "C" fn zelcandry_put(mode: u8, octets: &mut [u8], bytes: &[u8]) -> u6
     ensures { λ r. ⌜ Does (putBytes mode (now (octets .entry)) (now (bytes .entry))) r (now (octets .exit)) ⌝ }
 {
     let a = cue::put(mode, octets, bytes);
-    packed(a.number, a.index)
+    packed(a.number, a.index, 0)
 }
 
 // Takes data out of octets.
@@ -68,5 +68,5 @@ pub extern "C" fn zelcandry_take(mode: u8, octets: &[u8], bytes: &mut [u8]) -> u
     ensures { λ r. ⌜ Does (takeBytes mode (now (octets .entry)) (now (bytes .entry))) r (now (bytes .exit)) ⌝ }
 {
     let a = cue::take(mode, octets, bytes);
-    packed(a.number, a.index)
+    packed(a.number, a.index, 0)
 }

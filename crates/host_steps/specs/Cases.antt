@@ -1,11 +1,10 @@
 -- Worked calls of the two steps, accepted and refused, which the prover computes: they tell the definitions here from others.
 -- Assumes nothing.
 use mathlib.Core.Path.{_≡_, refl}
-use mathlib.Core.List.{[], _∷_, _++_}
+use mathlib.Core.List.{List, [], _∷_, _++_}
+use Prim.Native.Nat.{ℕ, _*_, _^_}
 use lib.ListN.{take, drop, replicate}
 use Rattle.g722.specs.Opened.{meaning}
-use Rattle.g722.specs.Steps.{signalsOf, bandAfter, rlsOf, rhsOf, heardAfter, heard}
-use Rattle.g722.specs.Steps.{pairsNext, joinedOf, pairsAfter, joinedAfter, firstBadPair, joined}
 use Rattle.pcm.specs.Bytes.{sampleOf, pcmSamples, wordOf, highOf, lowOf, pcmBytes}
 use Rattle.pcm.specs.Chunks.{notStored, asBytes}
 use Rattle.pcm.specs.Signals.{unpairedBytes, notHeardBytes, bothAsBytes, hearChunk, unjoinedBytes, badPair, joinSignals, joinChunk}
@@ -17,8 +16,7 @@ use Rattle.host_steps.specs.Calls.{hearBytes, joinBytes}
 
 -- all that a call computes with
 unfoldable opened : Unit {0}
-unfolding meaning signalsOf bandAfter rlsOf rhsOf heardAfter heard pairsNext joinedOf pairsAfter joinedAfter firstBadPair joined
-    sampleOf pcmSamples wordOf highOf lowOf pcmBytes notStored asBytes
+unfolding meaning sampleOf pcmSamples wordOf highOf lowOf pcmBytes notStored asBytes
     unpairedBytes notHeardBytes bothAsBytes hearChunk unjoinedBytes badPair joinSignals joinChunk
     bandValues decoderValues decoderBytes bandOf decoderOf holds noDecoder decoderIn resetBytes packed afterDecoding hearBytes joinBytes
 opened = tt
@@ -51,6 +49,13 @@ join-accepted : let x = joinBytes (resetBytes 2) (63 ∷ 255 ∷ []) (192 ∷ 0 
     × (drop 101 (x .left .0) ≡ 63 ∷ 255 ∷ replicate 20 0 ++ (192 ∷ 0 ∷ []))
 unfolding opened
 join-accepted = (refl, refl, refl, refl)
+
+-- 16383 beside -16384 and then -16384 twice in the filter's middle: the samples are 31007 and -31009 in full, so both are limited
+join-limited : let pairs : List ℕ = 63 ∷ 255 ∷ 192 ∷ 0 ∷ replicate 18 0 ++ (192 ∷ 0 ∷ 192 ∷ 0 ∷ []) in
+    let x = joinBytes (take 91 (resetBytes 2) ++ (pairs ++ replicate 8 0)) (0 ∷ 0 ∷ []) (0 ∷ 0 ∷ []) (replicate 4 7) in
+    (x .answer ≡ 2 * 2 ^ 32) × (drop 89 (x .left .0) ≡ pairs ++ replicate 10 0) × (x .left .1 ≡ 63 ∷ 255 ∷ 192 ∷ 0 ∷ [])
+unfolding opened
+join-limited = (refl, refl, refl)
 
 -- the high signal of the second pair is 16384: number 4, index 1
 join-refused : joinBytes (resetBytes 2) (replicate 4 0) (0 ∷ 0 ∷ 64 ∷ 0 ∷ []) (replicate 8 7)

@@ -10,12 +10,12 @@ use pcm::join_chunk;
 use state::read_decoder;
 use state::write_decoder;
 
-// A number and an index in one word.
-fn packed(number: u8, index: usize) -> u64
+// A number, an index and a count in one word.
+fn packed(number: u8, index: usize, limited: u32) -> u64
     requires { ⌜ index < 2 ^ 24 ⌝ }
-    ensures { λ r. ⌜ r ≡ packed number index ⌝ }
+    ensures { λ r. ⌜ r ≡ packed number index limited ⌝ }
 {
-    number as u64 + 256 * (index as u64)
+    number as u64 + 256 * (index as u64) + 4294967296 * (limited as u64)
 }
 
 // The first step: n octets to 2n bytes of low and 2n of high signals, in a told mode.
@@ -31,7 +31,7 @@ pub extern "C" fn zelcandry_hear(
         (now (state .exit), (now (low .exit), now (high .exit))) ⌝ }
 {
     let heard = hear_chunk(read_decoder(state), mode, octets, low, high);
-    let answer = packed(heard.number, heard.index);
+    let answer = packed(heard.number, heard.index, heard.limited);
     if heard.number == 0 {
         write_decoder(heard.next, state);
     }
@@ -50,7 +50,7 @@ pub extern "C" fn zelcandry_join(
         (now (state .exit), now (samples .exit)) ⌝ }
 {
     let joined = join_chunk(read_decoder(state), low, high, samples);
-    let answer = packed(joined.number, joined.index);
+    let answer = packed(joined.number, joined.index, joined.limited);
     if joined.number == 0 {
         write_decoder(joined.next, state);
     }

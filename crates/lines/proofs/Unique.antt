@@ -8,3 +8,6 @@ block-line = equation (λ κs a l m. refl) (λ M. lines.block_line.Met.met)
 
 pub refused-line : LeavesOne lines.refused_line.ended (λ M. lines.refused_line.clauses) lines.refused_line.Symbol.routine
 refused-line = equation (λ κs a l m. refl) (λ M. lines.refused_line.Met.met)
+
+pub overload-line : LeavesOne lines.overload_line.ended (λ M. lines.overload_line.clauses) lines.overload_line.Symbol.routine
+overload-line = equation (λ κs a l m. refl) (λ M. lines.overload_line.Met.met)

@@ -9,16 +9,20 @@ use Rattle.lines.specs.Decimal.{decimal, signed}
 use Rattle.lines.specs.Text.{ascii}
 use Rattle.lines.specs.declared.Line.{Line}
 
--- "take block mode count first last", single spaces between them and a line feed behind them
-unfoldable pub blockLine : ℕ → ℕ → ℕ → ℕ → ℤ → ℤ → List ℕ
-blockLine take block mode count first last =
+-- "take block mode count first last limited", single spaces between them and a line feed behind them
+unfoldable pub blockLine : ℕ → ℕ → ℕ → ℕ → ℤ → ℤ → ℕ → List ℕ
+blockLine take block mode count first last limited =
     decimal take ++ (32 ∷ decimal block ++ (32 ∷ decimal mode ++ (32 ∷ decimal count
-    ++ (32 ∷ signed first ++ (32 ∷ signed last ++ (10 ∷ []))))))
+    ++ (32 ∷ signed first ++ (32 ∷ signed last ++ (32 ∷ decimal limited ++ (10 ∷ [])))))))
 
 -- "refused number blocks", alike
 unfoldable pub refusedLine : ℕ → ℕ → List ℕ
 refusedLine number blocks =
     ascii "refused" ++ (32 ∷ decimal number ++ (32 ∷ decimal blocks ++ (10 ∷ [])))
+
+-- "overload: limited sums limited"
+unfoldable pub overloadLine : ℕ → List ℕ
+overloadLine limited = ascii "overload:" ++ (32 ∷ decimal limited ++ (ascii " sums limited" ++ (10 ∷ [])))
 
 -- a line held at the end of 160 bytes, behind zeros
 unfoldable pub lineOf : List ℕ → Line

@@ -4,7 +4,7 @@ ghost use mathlib.Core.List.{[], _∷_};
 ghost use Prim.Native.Nat.{_+_, _<_};
 ghost use lib.ListN.{length};
 ghost use Rattle.lines.specs.Decimal.{decimal, signed};
-ghost use Rattle.lines.specs.Lines.{lineOf, Ready, Wrote, blockLine, refusedLine};
+ghost use Rattle.lines.specs.Lines.{lineOf, Ready, Wrote, blockLine, refusedLine, overloadLine};
 use arith::size;
 
 // Bytes that end with a line: it stands from `at` on, behind zeros.
@@ -102,10 +102,18 @@ fn word(line: Line, bytes: &[u8]) -> Line
 }
 
 // The line of a block.
-pub fn block_line(take: u32, block: u32, mode: u8, count: usize, first: i16, last: i16) -> Line
-    ensures { λ r. ⌜ r ≡ lineOf (blockLine take block mode count first last) ⌝ }
+pub fn block_line(
+    take: u32,
+    block: u32,
+    mode: u8,
+    count: usize,
+    first: i16,
+    last: i16,
+    limited: u32,
+) -> Line
+    ensures { λ r. ⌜ r ≡ lineOf (blockLine take block mode count first last limited) ⌝ }
 {
-    let end = put(empty(), b'\n');
+    let end = field(put(empty(), b'\n'), limited as u64);
     let samples = signed_field(signed_field(end, last), first);
     let counted = field(field(samples, count as u64), mode as u64);
     decimal(field(counted, block as u64), take as u64)
@@ -118,4 +126,12 @@ pub fn refused_line(number: u8, blocks: u64) -> Line
     let end = put(empty(), b'\n');
     let numbers = field(field(end, blocks), number as u64);
     word(numbers, b"refused")
+}
+
+// The line of an overload.
+pub fn overload_line(limited: u64) -> Line
+    ensures { λ r. ⌜ r ≡ lineOf (overloadLine limited) ⌝ }
+{
+    let end = word(put(empty(), b'\n'), b" sums limited");
+    word(field(end, limited), b"overload:")
 }

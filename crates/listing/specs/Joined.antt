@@ -69,7 +69,7 @@ lines-counted p j k [] r a = refl
 lines-counted p j k (piece ∷ rest) r a =
     let b = said (decoderFor (p .player) (readCall piece)) piece in
     line-read p j piece rest (a .0) r
-    ∙ ap (λ (more : List (List ℕ)). blockLine (b .take) (b .block) (b .mode) (b .count) (b .first) (b .last) ∷ more)
+    ∙ ap (λ (more : List (List ℕ)). blockLine (b .take) (b .block) (b .mode) (b .count) (b .first) (b .last) (b .limited) ∷ more)
     (lines-counted (onward p piece) (j + 1) (k + 1) rest (stays-ready p piece (a .0) r) (a .1))
     ∙ sym (line-read p k piece rest (a .0) r)
 

@@ -10,5 +10,5 @@ use Rattle.lines.specs.Lines.{blockLine, refusedLine}
 unfoldable pub listed : Played → ℕ → List ℕ
 listed p before =
     cond (eqb (p .number) 0)
-    (blockLine (p .take) (p .block) (p .mode) (p .count) (p .first) (p .last))
+    (blockLine (p .take) (p .block) (p .mode) (p .count) (p .first) (p .last) (p .limited))
     (refusedLine (p .number) before)

@@ -5,7 +5,7 @@ use mathlib.Core.List.{List, [], _∷_, _++_, zipWith}
 use Prim.Native.Nat.{ℕ}
 use lib.ListN.{replicate}
 use Rattle.laws.specs.Clamp.{clamp}
-use Rattle.g722.specs.Arithmetic.{add, sub, mul, limit, sameSign, within, equal}
+use Rattle.g722.specs.Arithmetic.{add, sub, mul, limit, limited, overloads, sameSign, within, equal}
 use Rattle.g722.specs.Tables.{h, qq6, qq5, qq4, wl, qq2, wh, ila}
 use Rattle.g722.specs.Words.{fromFour, fromSix, fromFive, fromTwo}
 use Rattle.g722.specs.Quantise.{inverse, invqal, invqah, invqbl}
@@ -14,7 +14,8 @@ use Rattle.g722.specs.Band.{slide, term, sums, filtez, filtep, predic, parrec, 
 use Rattle.g722.specs.Band.{nextZeros, nextPoles, nextBand, lowAfter, highAfter}
 use Rattle.g722.specs.Mirror.{sum, coefficient, xd, xs, accumc, accumd}
 use Rattle.g722.specs.Records.{inRange, allInRange, goodPoles, goodFactors, goodLow, goodHigh, goodDecoder, resetBand, resetDecoder}
-use Rattle.g722.specs.Decoding.{rlOf, rhOf, rlRow, rhRow, firstOf, secondOf, decoderStep, samplesOf, decoderAfter}
+use Rattle.g722.specs.Decoding.{ylOf, yhOf, rlOf, rhOf, rlRow, rhRow, firstOf, secondOf, decoderStep}
+use Rattle.g722.specs.Decoding.{samplesInFull, samplesOf, decoderAfter, decoded}
 use Rattle.block.specs.Check.{bitStep, bitSteps, byteStep, checkFrom, check}
 use Rattle.block.specs.Layout.{body, blockOf}
 use Rattle.block.specs.Calls.{between, allowed, allZero, wellFormed, readCall}
@@ -51,21 +52,21 @@ one = block 7 0
 
 -- by itself; before a block that is refused, after which nothing is listed; and six times, where each goes on from the one before, but
 -- for block 0 in mid-take and for another take
-pub one-octet : (listing one ≡ ascii "7 0 1 1 0 -1\n" ∷ [])
-    × (listing (one ++ (replicate 512 0 ++ one)) ≡ ascii "7 0 1 1 0 -1\n" ∷ ascii "refused 7 1\n" ∷ [])
+pub one-octet : (listing one ≡ ascii "7 0 1 1 0 -1 0\n" ∷ [])
+    × (listing (one ++ (replicate 512 0 ++ one)) ≡ ascii "7 0 1 1 0 -1 0\n" ∷ ascii "refused 7 1\n" ∷ [])
     × (listing (one ++ block 7 1 ++ one ++ block 7 1 ++ block 8 1 ++ block 8 2)
-    ≡ ascii "7 0 1 1 0 -1\n"
-    ∷ ascii "7 1 1 1 -1 0\n"
-    ∷ ascii "7 0 1 1 0 -1\n"
-    ∷ ascii "7 1 1 1 -1 0\n"
-    ∷ ascii "8 1 1 1 0 -1\n"
-    ∷ ascii "8 2 1 1 -1 0\n"
+    ≡ ascii "7 0 1 1 0 -1 0\n"
+    ∷ ascii "7 1 1 1 -1 0 0\n"
+    ∷ ascii "7 0 1 1 0 -1 0\n"
+    ∷ ascii "7 1 1 1 -1 0 0\n"
+    ∷ ascii "8 1 1 1 0 -1 0\n"
+    ∷ ascii "8 2 1 1 -1 0 0\n"
     ∷ [])
 unfolding listing pieces cut linesFrom start onward listed playCall readCall check checkFrom byteStep bitSteps bitStep blockOf body
     wellFormed allowed between allZero startPlayer begins afresh decoderFor playedFrom reported blockLine refusedLine decimal spelled
-    signed ascii goodDecoder goodLow goodHigh goodPoles goodFactors inRange allInRange resetDecoder resetBand samplesOf decoderAfter
-    decoderStep firstOf secondOf rlOf rhOf rlRow rhRow accumc accumd xd xs sum coefficient h limit clamp add sub mul sameSign within equal
-    invqbl invqal invqah inverse fromFour fromFive fromSix fromTwo qq4 qq5 qq6 qq2 recons predic filtez filtep term sums scalel scaleh
-    scaleAt ila zipWith logsc logscl logsch lowFactors highFactors slide parrec gain upzero four turned uppol2 reach uppol1 nextZeros
-    nextPoles nextBand lowAfter highAfter wl wh
+    signed ascii goodDecoder goodLow goodHigh goodPoles goodFactors inRange allInRange resetDecoder resetBand samplesInFull samplesOf
+    decoderAfter decoded decoderStep firstOf secondOf ylOf yhOf rlOf rhOf rlRow rhRow accumc accumd xd xs sum coefficient h limit
+    limited overloads clamp add sub mul sameSign within equal invqbl invqal invqah inverse fromFour fromFive fromSix fromTwo qq4 qq5 qq6
+    qq2 recons predic filtez filtep term sums scalel scaleh scaleAt ila zipWith logsc logscl logsch lowFactors highFactors slide parrec
+    gain upzero four turned uppol2 reach uppol1 nextZeros nextPoles nextBand lowAfter highAfter wl wh
 one-octet = (refl, refl, refl)

@@ -89,7 +89,7 @@ module _ (p : Playing) (before : ℕ) where
     -- a block: its line, and then the listing of the rest, from what the player keeps
     pub good-line : let a = played p (take 512 bytes) .answer in a .number ≡ 0
         → listingFrom p before bytes
-        ≡ blockLine (a .take) (a .block) (a .mode) (a .count) (a .first) (a .last)
+        ≡ blockLine (a .take) (a .block) (a .mode) (a .count) (a .first) (a .last) (a .limited)
         ∷ listingFrom (onward p (take 512 bytes)) (before + 1) (drop 512 bytes)
     unfolding linesFrom listed
     good-line z = rw (pieces-some bytes some, eq-eqb (played p (take 512 bytes) .answer .number) 0 z)

@@ -25,7 +25,7 @@ fn listed(p: Played, before: u64) -> Line
     if number != 0 {
         return lines::refused_line(number, before);
     }
-    lines::block_line(p.take, p.block, p.mode, p.count, p.first, p.last)
+    lines::block_line(p.take, p.block, p.mode, p.count, p.first, p.last, p.limited)
 }
 
 // Writes out the bytes from a place on.

@@ -2,12 +2,13 @@
 -- Assumes nothing.
 use mathlib.Core.List.{List}
 use lib.IntN.{ℤ}
+use Rattle.g722.specs.Arithmetic.{limited}
 use Rattle.g722.specs.Mirror.{lowt, hight, accumc, accumd}
 use Rattle.mirror.specs.declared.Halves.{Halves}
 use Rattle.mirror.specs.declared.Joined.{Joined}
 
 unfoldable pub splitOf : List ℤ → Halves
-splitOf x = record { xl = lowt x; xh = hight x }
+splitOf x = record { xl = limited (lowt x); xh = limited (hight x) }
 
 unfoldable pub joinOf : List ℤ → List ℤ → Joined
-joinOf rl rh = record { first = accumc rl rh; second = accumd rl rh }
+joinOf rl rh = record { first = limited (accumc rl rh); second = limited (accumd rl rh) }

@@ -7,17 +7,18 @@ ghost use Prim.Native.Nat.{_+_, _*_, _^_, _<_};
 ghost use lib.IntN.{natAbs, _+ℤ_, _*ℤ_};
 ghost use lib.ListN.{drop};
 ghost use Rattle.mirror.specs.Filters.{splitOf, joinOf};
+use g722::Limited;
 
-// What the transmit filter gives: a sample of the low band and one of the high band.
+// What the transmit filter gives: a sample of the low band and one of the high band, limited.
 pub struct Halves {
-    pub xl: i16,
-    pub xh: i16,
+    pub xl: Limited,
+    pub xh: Limited,
 }
 
-// What the receive filter gives: two samples, the earlier first.
+// What the receive filter gives: two samples, the earlier first, limited.
 pub struct Joined {
-    pub first: i16,
-    pub second: i16,
+    pub first: Limited,
+    pub second: Limited,
 }
 
 // Table 11: H0 to H23.

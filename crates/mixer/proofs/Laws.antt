@@ -11,17 +11,19 @@ use lib.ListN.{length, take, drop, getD, set, drop-of-length-le}
 use lib.Seq.{take-all}
 use Rattle.laws.specs.Filled.{Filled}
 use Rattle.laws.specs.Turns.{drop-one}
-use Rattle.g722.specs.Arithmetic.{limit}
+use Rattle.facts.specs.Overload.{Counted, two-counted}
+use Rattle.g722.specs.Arithmetic.{limited, one, changes, overloads}
 use Rattle.g722.specs.declared.Coder.{Coder}
 use Rattle.g722.specs.declared.Decoder.{Decoder}
-use Rattle.coder.specs.declared.Sent.{Sent}
-use Rattle.conference.specs.Sums.{sumOf, mixed}
+use Rattle.g722.specs.declared.Limited.{Limited}
+use Rattle.conference.specs.Sums.{sumOf, othersOf, sumsOf, mixed}
 use Rattle.conference.specs.Ports.{rlFrom, rhFrom, rlsFrom, rhsFrom, octetTo, coderTo, eachPort}
 use Rattle.conference.specs.Tick.{allGood}
 use Rattle.port.specs.Step.{heardOf, sentOf}
 use Rattle.conference.specs.Rows.{zip-length, zip-at, pairs-length, pairs-at, each-not-yet, each-one-more}
-use Rattle.conference.specs.Total.{others-total, mixed-length, mixed-at}
+use Rattle.conference.specs.Total.{others-total, sums-length, sums-at, mixed-length, mixed-at}
 use Rattle.port.specs.declared.Signals.{Signals}
+use Rattle.port.specs.declared.Reply.{Reply}
 
 -- ---- a row that is full
 
@@ -87,11 +89,41 @@ module _ (t₀ : List Decoder) (modes octets : List ℕ) where
 
 -- ---- what each port hears
 
--- the total less the own signal, limited, is what the port hears
-pub heard-at : (xs : List ℤ) (i : ℕ) {all own x : ℤ} → i < length xs → all ≡ sumOf xs → own ≡ getD xs i (pos 0) → x ≡ limit (all -ℤ own)
-    → x ≡ getD (mixed xs) i (pos 0)
-heard-at xs i h all≡ own≡ e =
-    e ∙ (λ j. limit (all≡ j -ℤ own≡ j)) ∙ ap limit (sym (others-total xs i)) ∙ sym (mixed-at xs i h)
+-- the total less the own signal is the sum of the others, and limited it is what the port hears
+pub sum-at : (xs : List ℤ) (i : ℕ) {all own : ℤ} {x : Limited} → all ≡ sumOf xs → own ≡ getD xs i (pos 0) → x ≡ limited (all -ℤ own)
+    → x ≡ limited (othersOf xs i)
+sum-at xs i all≡ own≡ e = e ∙ (λ j. limited (all≡ j -ℤ own≡ j)) ∙ ap limited (sym (others-total xs i))
+
+pub heard-at : (xs : List ℤ) (i : ℕ) {x : Limited} → i < length xs → x ≡ limited (othersOf xs i) → x .value ≡ getD (mixed xs) i (pos 0)
+unfolding limited
+heard-at xs i h e = (λ j. e j .value) ∙ sym (mixed-at xs i h)
+
+-- what is left to count after i ports
+left-turn : (xs : List ℤ) (i : ℕ) → i < length xs
+    → overloads (drop i (sumsOf xs)) ≡ one (limited (othersOf xs i) .changed) + overloads (drop (i + 1) (sumsOf xs))
+unfolding overloads
+left-turn xs i h =
+    ap overloads (drop-one (sumsOf xs) i (pos 0) (rw (sums-length xs) h))
+    ∙ ap (λ (z : ℤ). one (limited z .changed) + overloads (drop (i + 1) (sumsOf xs))) (sums-at xs i h)
+
+abbrev pub sumsLeft : List ℤ → List ℤ → ℕ → ℕ
+sumsLeft low high i = overloads (drop i (sumsOf low)) + overloads (drop i (sumsOf high))
+
+module _ (low high : List ℤ) (l : length high ≡ length low) where
+  pub none-left : (i : ℕ) → length low ≤ i → sumsLeft low high i ≡ 0
+  unfolding overloads
+  none-left i h =
+      let p : length (sumsOf low) ≤ i = rw (sums-length low) h in
+      let q : length (sumsOf high) ≤ i = rw (sums-length high, l) h in
+      omega (arith, ap overloads (drop-of-length-le (sumsOf low) p), ap overloads (drop-of-length-le (sumsOf high) q))
+
+  pub sums-counted : {i n whole : ℕ} (x y : Limited) {s : Reply} (c : Coder) → i < length low → Counted n (sumsLeft low high i) whole i
+      → s ≡ sentOf c x y → x ≡ limited (othersOf low i) → y ≡ limited (othersOf high i)
+      → Counted (n + s .limited) (sumsLeft low high (i + 1)) whole (i + 1)
+  unfolding sentOf overloads
+  sums-counted {i} x y c h f e x≡ y≡ =
+      two-counted (othersOf low i) (othersOf high i) f ((λ j. e j .limited) ∙ λ j. changes (x≡ j) (y≡ j))
+      (omega (arith, left-turn low i h, left-turn high i (rw l h)))
 
 abbrev pub heards : List ℤ → List ℤ → List (ℤ × ℤ)
 heards low high = zip (mixed low) (mixed high)
@@ -103,9 +135,9 @@ module _ (t₀ : List Coder) (low high : List ℤ) (l : length high ≡ length l
   pub octets-length : length low ≤ length t₀ → length (zipWith octetTo t₀ (heards low high)) ≡ length low
   octets-length h = omega (arith, zip-length octetTo t₀ (heards low high), heards-length)
 
-  module _ {s : Sent} (c : Coder) {x y : ℤ} (i : ℕ) (e : s ≡ sentOf c x y) (p : i < length low)
-      (x≡ : x ≡ getD (mixed low) i (pos 0)) (y≡ : y ≡ getD (mixed high) i (pos 0)) where
-    pair-at : getD (heards low high) i (pos 0, pos 0) ≡ (x, y)
+  module _ {s : Reply} (c : Coder) (x y : Limited) (i : ℕ) (e : s ≡ sentOf c x y) (p : i < length low)
+      (x≡ : x .value ≡ getD (mixed low) i (pos 0)) (y≡ : y .value ≡ getD (mixed high) i (pos 0)) where
+    pair-at : getD (heards low high) i (pos 0, pos 0) ≡ (x .value, y .value)
     pair-at =
         pairs-at (mixed low) (mixed high) i (pos 0) (pos 0) (pos 0, pos 0)
         (omega (arith, mixed-length low)) (omega (arith, mixed-length high))

@@ -6,8 +6,8 @@ ghost use mathlib.Core.Path.{_≡_};
 ghost use Prim.Native.Nat.{_≤_};
 ghost use lib.ListN.{length};
 ghost use Rattle.laws.specs.Outcome.{Does};
-ghost use Rattle.conference.specs.Tick.{tickCall, resetCall};
-ghost use Rattle.mixer.specs.Run.{hearRun, sendRun, deskRun};
+ghost use Rattle.conference.specs.Tick.{ticked, tickCall, resetCall};
+ghost use Rattle.mixer.specs.Run.{hearRun, sendRun};
 use check::any_above;
 use check::good_ports;
 use check::uneven;
@@ -22,13 +22,20 @@ use port::sent;
 use sums::others;
 use sums::total;
 
+// All that the ports are sent: how many of their sums were limited, and the coders after it.
+struct Mixed {
+    limited: u32,
+    coders: [Coder; 8],
+}
+
 // The answer of a call.
-fn answer(number: u8, desk: Desk) -> Ticked
-    ensures { λ r. ⌜ r ≡ record { number = number; index = 0; next = desk } ⌝ }
+fn answer(number: u8, limited: u32, desk: Desk) -> Ticked
+    ensures { λ r. ⌜ r ≡ record { number = number; index = 0; limited = limited; next = desk } ⌝ }
 {
     Ticked {
         number: number,
         index: 0,
+        limited: limited,
         next: desk,
     }
 }
@@ -45,9 +52,9 @@ pub fn reset(ports: u8) -> Ticked
         decoders: [d; 8],
     };
     if unseated(ports) {
-        return answer(9, fresh);
+        return answer(9, 0, fresh);
     }
-    answer(0, fresh)
+    answer(0, 0, fresh)
 }
 
 // Every port's octet through its decoder's first step. Each record is updated where it stands.
@@ -79,7 +86,7 @@ fn hear_all(
 }
 
 // Every port's octet out of what the others gave: all signals of a band are summed once, and each port's own is taken off.
-fn send_all(coders: [Coder; 8], low: &[i16], high: &[i16], room: &mut [u8]) -> [Coder; 8]
+fn send_all(coders: [Coder; 8], low: &[i16], high: &[i16], room: &mut [u8]) -> Mixed
     requires { ⌜ length (now low) ≤ 8 ⌝ }
     requires { ⌜ length (now high) ≡ length (now low) ⌝ }
     requires { ⌜ length (now room) ≡ length (now low) ⌝ }
@@ -88,6 +95,7 @@ fn send_all(coders: [Coder; 8], low: &[i16], high: &[i16], room: &mut [u8]) -> [
     let all_low = total(low);
     let all_high = total(high);
     let mut t = coders;
+    let mut limited: u32 = 0;
     for i in 0..room.len() {
         let c = t[i];
         let s = sent(c, others(all_low, low[i]), others(all_high, high[i]));
@@ -95,8 +103,12 @@ fn send_all(coders: [Coder; 8], low: &[i16], high: &[i16], room: &mut [u8]) -> [
         let next = s.next;
         room[i] = octet;
         t[i] = next;
+        limited = limited + s.limited;
     }
-    t
+    Mixed {
+        limited: limited,
+        coders: t,
+    }
 }
 
 // All are heard, and then all are sent to, with lent room for the signals on their way.
@@ -107,32 +119,34 @@ fn in_turn(
     low: &mut [i16],
     high: &mut [i16],
     room: &mut [u8],
-) -> Desk
+) -> Ticked
     requires { ⌜ length (now octets) ≤ 8 ⌝ }
     requires { ⌜ length (now modes) ≡ length (now octets) ⌝ }
     requires { ⌜ length (now low) ≡ length (now octets) ⌝ }
     requires { ⌜ length (now high) ≡ length (now octets) ⌝ }
     requires { ⌜ length (now room) ≡ length (now octets) ⌝ }
-    ensures { λ r. ⌜ Does (deskRun desk (now (modes .entry)) (now (octets .entry))) r (now (room .exit)) ⌝ }
+    ensures { λ r. ⌜ Does (ticked desk (now (modes .entry)) (now (octets .entry))) r (now (room .exit)) ⌝ }
 {
     let decoders = desk.decoders;
     let coders = desk.coders;
     let heard = hear_all(decoders, modes, octets, low, high);
     let sent = send_all(coders, low, high, room);
     let ports = desk.ports;
-    Desk {
+    let coders_next = sent.coders;
+    let next = Desk {
         ports: ports,
-        coders: sent,
+        coders: coders_next,
         decoders: heard,
-    }
+    };
+    answer(0, sent.limited, next)
 }
 
 // A tick that is not refused, with room of its own for the signals.
-fn run(desk: Desk, modes: &[u8], octets: &[u8], room: &mut [u8]) -> Desk
+fn run(desk: Desk, modes: &[u8], octets: &[u8], room: &mut [u8]) -> Ticked
     requires { ⌜ length (now octets) ≤ 8 ⌝ }
     requires { ⌜ length (now modes) ≡ length (now octets) ⌝ }
     requires { ⌜ length (now room) ≡ length (now octets) ⌝ }
-    ensures { λ r. ⌜ Does (deskRun desk (now (modes .entry)) (now (octets .entry))) r (now (room .exit)) ⌝ }
+    ensures { λ r. ⌜ Does (ticked desk (now (modes .entry)) (now (octets .entry))) r (now (room .exit)) ⌝ }
 {
     let n = octets.len();
     let mut low = [0i16; 8];
@@ -150,16 +164,16 @@ pub fn tick(desk: Desk, modes: &[u8], octets: &[u8], room: &mut [u8]) -> Ticked
     let no_mode = any_above(modes);
     let good = good_ports(desk);
     if no_desk {
-        return answer(9, desk);
+        return answer(9, 0, desk);
     }
     if unfit {
-        return answer(3, desk);
+        return answer(3, 0, desk);
     }
     if no_mode {
-        return answer(1, desk);
+        return answer(1, 0, desk);
     }
     if !good {
-        return answer(2, desk);
+        return answer(2, 0, desk);
     }
-    answer(0, run(desk, modes, octets, room))
+    run(desk, modes, octets, room)
 }

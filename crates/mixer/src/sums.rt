@@ -3,10 +3,11 @@ ghost use mathlib.Core.Path.{_≡_};
 ghost use Prim.Native.Nat.{_≤_};
 ghost use lib.IntN.{natAbs, _-ℤ_};
 ghost use lib.ListN.{length};
-ghost use Rattle.g722.specs.Arithmetic.{limit};
+ghost use Rattle.g722.specs.Arithmetic.{limited};
 ghost use Rattle.conference.specs.Sums.{sumOf};
 use arith::limit;
 use arith::wide;
+use g722::Limited;
 
 // The sum of all.
 pub(crate) fn total(signals: &[i16]) -> i32
@@ -21,9 +22,9 @@ pub(crate) fn total(signals: &[i16]) -> i32
 }
 
 // All but a port's own, limited.
-pub(crate) fn others(all: i32, own: i16) -> i16
+pub(crate) fn others(all: i32, own: i16) -> Limited
     requires { ⌜ natAbs all ≤ 262144 ⌝ }
-    ensures { λ r. ⌜ r ≡ limit (all -ℤ own) ⌝ }
+    ensures { λ r. ⌜ r ≡ limited (all -ℤ own) ⌝ }
 {
     limit(all - wide(own))
 }

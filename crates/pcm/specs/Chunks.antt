@@ -27,7 +27,7 @@ encodeChunk c bytes octets =
 
 -- a refused call gives back the record and the bytes as they came
 unfoldable pub notStored : ℕ → Decoder → List ℕ → Outcome Decoded (List ℕ)
-notStored number d bytes = record { answer = record { number = number; index = 0; next = d }; left = bytes }
+notStored number d bytes = record { answer = record { number = number; index = 0; limited = 0; next = d }; left = bytes }
 
 -- the samples of a call as bytes
 unfoldable pub asBytes : Outcome Decoded (List ℤ) → Outcome Decoded (List ℕ)

@@ -27,7 +27,7 @@ unpairedBytes n low high = ltb 8000 n || not (eqb low (2 * n)) || not (eqb high 
 
 -- a refused call gives back the record and both signals as they came
 unfoldable pub notHeardBytes : ℕ → Decoder → List ℕ → List ℕ → Outcome Decoded (List ℕ × List ℕ)
-notHeardBytes number d low high = record { answer = record { number = number; index = 0; next = d }; left = (low, high) }
+notHeardBytes number d low high = record { answer = record { number = number; index = 0; limited = 0; next = d }; left = (low, high) }
 
 -- the signals of a call as bytes
 unfoldable pub bothAsBytes : Outcome Decoded (List ℤ × List ℤ) → Outcome Decoded (List ℕ × List ℕ)
@@ -49,7 +49,7 @@ unjoinedBytes n low high samples = unpairedBytes n low high || not (eqb samples 
 
 -- a pair of which one is out of range: the record and the samples as they came, and the pair's index
 unfoldable pub badPair : ℕ → Decoder → List ℕ → Outcome Decoded (List ℕ)
-badPair index d samples = record { answer = record { number = 4; index = index; next = d }; left = samples }
+badPair index d samples = record { answer = record { number = 4; index = index; limited = 0; next = d }; left = samples }
 
 -- 2, then 4 with the index of the first bad pair, as a call of the second step has them
 unfoldable pub joinSignals : Decoder → List ℤ → List ℤ → List ℕ → Outcome Decoded (List ℕ)

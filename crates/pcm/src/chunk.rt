@@ -96,22 +96,24 @@ fn decode_and_store(
 
 // The answer of a refused coding call.
 fn not_coded(refusal: u8, c: Coder) -> Coded
-    ensures { λ r. ⌜ r ≡ record { number = refusal; index = 0; next = c } ⌝ }
+    ensures { λ r. ⌜ r ≡ record { number = refusal; index = 0; limited = 0; next = c } ⌝ }
 {
     Coded {
         number: refusal,
         index: 0,
+        limited: 0,
         next: c,
     }
 }
 
 // The answer of a refused decoding call.
 pub(crate) fn not_decoded(number: u8, d: Decoder) -> Decoded
-    ensures { λ r. ⌜ r ≡ record { number = number; index = 0; next = d } ⌝ }
+    ensures { λ r. ⌜ r ≡ record { number = number; index = 0; limited = 0; next = d } ⌝ }
 {
     Decoded {
         number: number,
         index: 0,
+        limited: 0,
         next: d,
     }
 }

@@ -6,7 +6,7 @@ use mathlib.Core.Bool.{true}
 use mathlib.Core.List.{List, [], _∷_, _++_, append-nil}
 use Prim.Native.Nat.{ℕ}
 use borrow.Author.Tests.{eqb-true, eqb-false}
-use Rattle.conference.specs.Tick.{octetsTo, deskAfter, tickCall}
+use Rattle.conference.specs.Tick.{octetsTo, deskAfter, tickLimited, tickCall}
 use Rattle.conference.specs.Cases.{refused, accepted}
 use Rattle.conference.specs.Own.{TickInput}
 use Rattle.conference.specs.Good.{GoodDesk, desk-stays-good}
@@ -40,9 +40,14 @@ ticking =
     }
 
 module _ (d : Desk) (i : TickInput) (e : done ticking d i ≡ true) where
-  abbrev outcome : ticking .call d i
+  abbrev pub outcome : ticking .call d i
       ≡ record {
-        answer = record { number = 0; index = 0; next = deskAfter d (i .modes) (i .octets) };
+        answer = record {
+          number = 0;
+          index = 0;
+          limited = tickLimited d (i .modes) (i .octets);
+          next = deskAfter d (i .modes) (i .octets);
+        };
         left = octetsTo d (i .modes) (i .octets);
       }
   outcome = accepted d (i .modes) (i .octets) (i .room) (eqb-true _ _ e) .done

@@ -17,7 +17,8 @@ use Rattle.facts.specs.Told.{Told, marked}
 use Rattle.promises.specs.Accepted.{heard-run}
 use Rattle.promises.specs.Refused.{hear-beside}
 use Rattle.promises.specs.Through.{Calls, Runs, through, ofAccepted, taken, as-one-run, of-as-one-run}
-use Rattle.promises.specs.StepRuns.{received, rlsRun, received-marked, rls-marked, lowRun, highRun, heard-cut, low-cut, high-cut}
+use Rattle.promises.specs.StepRuns.{received, lowsRun, rlsRun, received-marked, rls-marked, lowRun, highRun}
+use Rattle.promises.specs.StepRuns.{heard-cut, low-cut, high-cut}
 use Rattle.promises.specs.StepRuns.{Heard, paired, paired-cut}
 
 -- what a call is handed beside the record
@@ -48,7 +49,7 @@ hearing =
 
 -- as many of each band over a run
 run-paired : (d : Decoder) (ts : List Told) → length (highRun d ts) ≡ length (lowRun d ts)
-unfolding rlsRun
+unfolding rlsRun lowsRun
 run-paired d ts = rhs-length (d .high) (received ts) ∙ length-map ts _ ∙ sym (signals-length _ _ (d .low) ts)
 
 module _ (d : Decoder) (k : HearInput) (h : hears d k .answer .number ≡ 0) where
@@ -71,7 +72,7 @@ module _ (d : Decoder) (k : HearInput) (h : hears d k .answer .number ≡ 0) whe
       ∙ ap (rhsOf (d .high)) (sym (received-marked (inForce (k .told)) (k .octets)))
 
 pub hearing-runs : Runs hearing
-unfolding heardAfter bandAfter rlsRun signalsOf zipWith
+unfolding heardAfter bandAfter rlsRun lowsRun signalsOf zipWith
 hearing-runs =
     record {
       after-none = λ d. refl;
@@ -104,7 +105,7 @@ module _ (d : Decoder) (ks : List HearInput) where
   hear-as-one-run = as-one-run hearing hearing-runs d ks
 
   pub low-as-one-run : lowThrough d ks ≡ rlsRun (d .low) (octetsHeard d ks)
-  unfolding rlsRun signalsOf
+  unfolding rlsRun lowsRun signalsOf
   low-as-one-run =
       of-as-one-run hearing hearing-runs (λ c k. hears c k .left .0) lowRun (λ c. refl) (λ c k e. heard-low c k (eqb-true _ _ e))
       (λ c k e rest. low-cut c (hearing .given k) rest) d ks

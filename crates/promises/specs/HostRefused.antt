@@ -16,18 +16,19 @@ use Rattle.pcm.specs.Bytes.{pcmSamples, samples-length}
 use Rattle.pcm.specs.Chunks.{encodeChunk, notStored, decodeChunk}
 use Rattle.state.specs.Layout.{holds, coderIn, decoderIn}
 use Rattle.state.specs.Reset.{unheld-coder-broken, unheld-decoder-broken}
-use Rattle.host.specs.Answer.{packed, numberIn, indexIn}
+use Rattle.host.specs.Answer.{packed, numberIn, indexIn, limitedIn}
 use Rattle.host.specs.Calls.{stateAfter, afterCoding, codeBytes, afterDecoding, decodeBytes, afterData, putBytes, takeBytes}
 use Rattle.promises.specs.Refused.{Beside, encode-chunk-beside, decode-chunk-beside, put-beside, take-beside}
 use Rattle.promises.specs.Packed.{Parts, code-parts, decode-parts, put-parts, take-parts}
 
--- what is so beside the number and the index is so beside the word that holds them
-pub in-word : {word number index : ℕ} {X Y : Type 0} {back came : X} {back′ came′ : Y} → Parts word number index
-    → Beside number index back came → ((number ≡ 0 → ⊥) → back ≡ came → back′ ≡ came′)
-    → Beside (numberIn word) (indexIn word) back′ came′
+-- what is so beside the number, the index and the count is so beside the word that holds them
+pub in-word : {word number index limited : ℕ} {X Y : Type 0} {back came : X} {back′ came′ : Y} → Parts word number index limited
+    → Beside number index limited back came → ((number ≡ 0 → ⊥) → back ≡ came → back′ ≡ came′)
+    → Beside (numberIn word) (indexIn word) (limitedIn word) back′ came′
 in-word {number = number} p b f =
     record {
       kept = λ h. let n : number ≡ 0 → ⊥ = λ e. h (p .number ∙ e) in f n (b .kept n);
+      dark = λ h. p .count ∙ b .dark (λ e. h (p .number ∙ e));
       plain = λ h. p .index ∙ b .plain (λ e. h (p .number ∙ e));
     }
 
@@ -39,26 +40,26 @@ stayed number next state n e = rw (ne-eqb number 0 n) (λ i. (state, e i))
 -- THE THEOREMS: the state and what was lent, of each call
 
 pub host-code-beside : (state samples octets : List ℕ) → let x = codeBytes state samples octets in
-    Beside (numberIn (x .answer)) (indexIn (x .answer)) {X = List ℕ × List ℕ} (x .left) (state, octets)
+    Beside (numberIn (x .answer)) (indexIn (x .answer)) (limitedIn (x .answer)) {X = List ℕ × List ℕ} (x .left) (state, octets)
 unfolding codeBytes afterCoding
 host-code-beside state samples octets =
     in-word (code-parts state samples octets) (encode-chunk-beside (coderIn state) samples octets)
     (λ n e. stayed _ _ state n (ap (λ p. p .1) e))
 
 pub host-decode-beside : (state : List ℕ) (told : ℕ) (octets samples : List ℕ) → let x = decodeBytes state told octets samples in
-    Beside (numberIn (x .answer)) (indexIn (x .answer)) {X = List ℕ × List ℕ} (x .left) (state, samples)
+    Beside (numberIn (x .answer)) (indexIn (x .answer)) (limitedIn (x .answer)) {X = List ℕ × List ℕ} (x .left) (state, samples)
 unfolding decodeBytes afterDecoding
 host-decode-beside state told octets samples =
     in-word (decode-parts state told octets samples) (decode-chunk-beside (decoderIn state) told octets samples)
     (λ n e. stayed _ _ state n (ap (λ p. p .1) e))
 
 pub host-put-beside : (mode : ℕ) (octets bytes : List ℕ) → let x = putBytes mode octets bytes in
-    Beside (numberIn (x .answer)) (indexIn (x .answer)) (x .left) octets
+    Beside (numberIn (x .answer)) (indexIn (x .answer)) (limitedIn (x .answer)) (x .left) octets
 unfolding putBytes afterData
 host-put-beside mode octets bytes = in-word (put-parts mode octets bytes) (put-beside mode octets bytes) (λ n e. e)
 
 pub host-take-beside : (mode : ℕ) (octets bytes : List ℕ) → let x = takeBytes mode octets bytes in
-    Beside (numberIn (x .answer)) (indexIn (x .answer)) (x .left) bytes
+    Beside (numberIn (x .answer)) (indexIn (x .answer)) (limitedIn (x .answer)) (x .left) bytes
 unfolding takeBytes afterData
 host-take-beside mode octets bytes = in-word (take-parts mode octets bytes) (take-beside mode octets bytes) (λ n e. e)
 

@@ -2,11 +2,12 @@
 -- Assumes nothing.
 use mathlib.Core.Path.{_≡_, refl, sym, ap, _∙_}
 use mathlib.Core.List.{List}
-use Prim.Native.Nat.{ℕ}
+use Prim.Native.Nat.{ℕ, _+_}
 use native.Mathlib.Omega.{arith}
 use lib.Dec.{ltb}
 use lib.ListN.{length, length-map}
 use Rattle.laws.specs.Order.{by-test}
+use Rattle.g722.specs.Arithmetic.{overloads}
 use Rattle.g722.specs.Quantise.{inForce}
 use Rattle.g722.specs.Records.{goodDecoder}
 use Rattle.g722.specs.Steps.{heard}
@@ -18,7 +19,7 @@ use Rattle.state.specs.Layout.{decoderBytes, decoderIn}
 use Rattle.host.specs.Answer.{packed, numberIn}
 use Rattle.host.specs.Calls.{stateAfter, afterDecoding}
 use Rattle.host_steps.specs.Calls.{hearBytes}
-use Rattle.promises.specs.Unheard.{Alike, heard-same}
+use Rattle.promises.specs.Unheard.{Alike, counted-same, heard-same}
 use Rattle.promises.specs.HostStepsRefused.{hear-parts}
 
 module _ (told : ℕ) (os rs x y u v : List ℕ)
@@ -29,11 +30,12 @@ module _ (told : ℕ) (os rs x y u v : List ℕ)
   hear-chunk-unheard d =
       let n : length os ≡ length rs = sym (length-map os _) ∙ ap length a ∙ length-map rs _ in
       let same = heard-same (inForce told) d os rs a in
+      let full = counted-same (inForce told) d os rs a in
       by-test (ltb 3 told) (λ e. rw e (refl, λ h. absurd (omega (arith, h)))) (λ e.
       by-test (unpairedBytes (length rs) (length u) (length v)) (λ f. rw (e, l, m, n, f) (refl, λ h. absurd (omega (arith, h)))) (λ f.
       by-test (goodDecoder d)
       (λ g. rw (e, l, m, n, f, g) (
-        λ i. record { number = 0; index = 0; next = same .2 i },
+        λ i. record { number = 0; index = 0; limited = overloads (full .0 i) + overloads (full .1 i); next = same .2 i },
         λ h i. (pcmBytes (same .0 i), pcmBytes (same .1 i)),
       ))
       (λ g. rw (e, l, m, n, f, g) (refl, λ h. absurd (omega (arith, h))))))
@@ -45,7 +47,7 @@ module _ (told : ℕ) (os rs x y u v : List ℕ)
   unfolding hearBytes afterDecoding
   host-hear-unheard state =
       let same = hear-chunk-unheard (decoderIn state) in (
-        ap (λ (r : Decoded). packed (r .number) (r .index)) (same .0),
+        ap (λ (r : Decoded). packed (r .number) (r .index) (r .limited)) (same .0),
         ap (λ (r : Decoded). stateAfter (r .number) (decoderBytes (r .next)) state) (same .0),
         λ h. same .1 (sym (hear-parts state told os x y .number) ∙ h),
       )

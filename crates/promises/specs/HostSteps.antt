@@ -23,7 +23,8 @@ use Rattle.g722.specs.declared.Band.{Band}
 use Rattle.g722.specs.declared.Decoder.{Decoder}
 use Rattle.facts.specs.Fits.{AllFit, BandFits, DecoderFits, fit-at, in-range-fits, low-fits, high-fits}
 use Rattle.facts.specs.Signals.{rls-length, rhs-length, rls-in-range, rhs-in-range, no-bad-pair, heard-good}
-use Rattle.facts.specs.Steps.{samples-in-steps, record-in-steps}
+use Rattle.g722.specs.Arithmetic.{overloads}
+use Rattle.facts.specs.Steps.{full-in-steps, samples-in-steps, record-in-steps}
 use Rattle.pcm.specs.Bytes.{pcmSamples, pcmBytes, samples-of-bytes, bytes-length}
 use Rattle.pcm.specs.Chunks.{notStored, asBytes, decodeChunk}
 use Rattle.pcm.specs.Signals.{unpairedBytes, notHeardBytes, bothAsBytes, hearChunk}
@@ -32,10 +33,11 @@ use Rattle.state.specs.Layout.{bandValues, decoderValues, decoderBytes, decoder
 use Rattle.state.specs.Values.{spelled, spelled-same}
 use Rattle.state.specs.Bands.{decoder-bands}
 use Rattle.state.specs.Round.{Holds, decoder-back, decoder-bytes-back, decoder-in-fits}
-use Rattle.host.specs.Answer.{packed, numberIn}
+use Rattle.host.specs.Answer.{numberIn}
 use Rattle.host.specs.Calls.{afterDecoding, decodeBytes}
 use Rattle.host_steps.specs.Calls.{hearBytes, joinBytes}
 use Rattle.promises.specs.Packed.{decode-parts}
+use Rattle.promises.specs.HostStepsRefused.{hear-parts}
 use Rattle.promises.specs.HostEnds.{bands}
 
 -- ---- what an accepted chunk is
@@ -137,7 +139,12 @@ signals-back s e = samples-of-bytes s (fit-at s (all-fit s e))
 in-steps : (mode : ℕ) (d : Decoder) (o : List ℕ) → joined (heardAfter d o) (rlsOf mode (d .low) o) (rhsOf (d .high) o) ≡ decoded mode d o
 unfolding joined decoded heardAfter
 in-steps mode d o = λ i. record {
-  answer = record { number = 0; index = 0; next = sym (record-in-steps mode d o) i };
+  answer = record {
+    number = 0;
+    index = 0;
+    limited = overloads (sym (full-in-steps mode d o) i);
+    next = sym (record-in-steps mode d o) i;
+  };
   left = sym (samples-in-steps mode d o) i;
 }
 
@@ -200,17 +207,21 @@ module _ (d : Decoder) (told : ℕ) (o s : List ℕ) (p : Passed d told o s) whe
   unfolding hearChunk unpairedBytes
   hears-too low high l m = rw (p .mode, p .few, l, m, eq-eqb (2 * length o) (2 * length o) refl, p .sound)
 
--- the first step is refused where decoding is, with the same word, if as many sample bytes are lent as decoding asks for
+-- the first step is refused with the word that decoding is, if as many sample bytes are lent as decoding asks for
 pub host-refused-alike : (state : List ℕ) (told : ℕ) (octets samples low high : List ℕ) → length samples ≡ 4 * length octets
     → length low ≡ 2 * length octets → length high ≡ 2 * length octets
+    → (numberIn (decodeBytes state told octets samples .answer) ≡ 0 → ⊥)
     → hearBytes state told octets low high .answer ≡ decodeBytes state told octets samples .answer
 unfolding hearBytes decodeBytes afterDecoding hearChunk notHeardBytes unpairedBytes decodeChunk notStored bothAsBytes asBytes heard decoded
-host-refused-alike state told octets samples low high e l m =
+host-refused-alike state told octets samples low high e l m r =
     let n = length octets in
+    let d = decoderIn state in
+    let done : ltb 3 told ≡ false → ltb 8000 n ≡ false → goodDecoder d ≡ true → decodeChunk d told octets samples .answer .number ≡ 0 =
+    λ a b g. rw (a, e, eq-eqb (4 * n) (4 * n) refl, b, g) refl in
     rw (e, l, m, eq-eqb (2 * n) (2 * n) refl, eq-eqb (4 * n) (4 * n) refl)
     (by-test (ltb 3 told) (λ a. rw a) (λ a.
     by-test (ltb 8000 n) (λ b. rw (a, b)) (λ b.
-    by-test (goodDecoder (decoderIn state)) (λ g. rw (a, b, g)) (λ g. rw (a, b, g)))))
+    by-test (goodDecoder d) (λ g. absurd (r (decode-parts state told octets samples .number ∙ done a b g))) (λ g. rw (a, b, g)))))
 
 -- of bytes that hold a record, with room for the signals of each octet
 module _ (state : List ℕ) (held : Holds 2 state) (told : ℕ) (octets samples low high : List ℕ)
@@ -219,9 +230,11 @@ module _ (state : List ℕ) (held : Holds 2 state) (told : ℕ) (octets samples 
   tests : Passed (decoderIn state) told octets samples
   tests = passed (decoderIn state) told octets samples (sym (decode-parts state told octets samples .number) ∙ h)
 
-  pub host-first-accepted : hearBytes state told octets low high .answer ≡ 0
-  unfolding hearBytes afterDecoding bothAsBytes heard packed
-  host-first-accepted = rw (hears-too (decoderIn state) told octets samples tests low high l m)
+  pub host-first-accepted : numberIn (hearBytes state told octets low high .answer) ≡ 0
+  unfolding bothAsBytes heard
+  host-first-accepted =
+      hear-parts state told octets low high .number
+      ∙ ap (λ x. x .answer .number) (hears-too (decoderIn state) told octets samples tests low high l m)
 
   -- THE THEOREM: the word, the state bytes and the sample bytes of a decoding call that is not refused are those of the two steps
   pub host-in-two-steps : decodeBytes state told octets samples ≡ hostTwoSteps state told octets low high samples

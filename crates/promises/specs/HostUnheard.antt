@@ -10,6 +10,7 @@ use native.Mathlib.Omega.{arith}
 use lib.Dec.{ltb, eqb}
 use lib.ListN.{length, length-map}
 use Rattle.laws.specs.Order.{by-test}
+use Rattle.g722.specs.Arithmetic.{overloads}
 use Rattle.g722.specs.Quantise.{inForce}
 use Rattle.g722.specs.Records.{goodDecoder}
 use Rattle.g722.specs.Decoding.{decoded}
@@ -22,7 +23,7 @@ use Rattle.host.specs.Answer.{numberIn, packed}
 use Rattle.host.specs.Calls.{afterDecoding, decodeBytes, stateAfter}
 use Rattle.promises.specs.Through.{through, answers}
 use Rattle.promises.specs.Streams.{StoreInput}
-use Rattle.promises.specs.Unheard.{Alike, run-same}
+use Rattle.promises.specs.Unheard.{Alike, full-same, run-same}
 use Rattle.promises.specs.Alike.{Each, answers-alike, state-alike, lefts-alike}
 use Rattle.promises.specs.Packed.{decode-parts}
 use Rattle.promises.specs.HostCalls.{Returned, returned, hostDecoding, hostHeard}
@@ -33,7 +34,7 @@ module _ (d : Decoder) (told : ℕ) (os rs s t : List ℕ) (a : Alike (inForce t
   same-length : length os ≡ length rs
   same-length = sym (length-map os _) ∙ ap length a ∙ length-map rs _
 
-  -- the same number, index and next record, and the same sample bytes if it is accepted
+  -- the same number, index, count and next record, and the same sample bytes if it is accepted
   chunk-unheard : (decodeChunk d told os s .answer ≡ decodeChunk d told rs t .answer)
       × (decodeChunk d told os s .answer .number ≡ 0 → decodeChunk d told os s .left ≡ decodeChunk d told rs t .left)
   unfolding decodeChunk notStored asBytes decoded
@@ -44,7 +45,12 @@ module _ (d : Decoder) (told : ℕ) (os rs s t : List ℕ) (a : Alike (inForce t
       (λ f. rw (e, l, m, f) (refl, λ h. absurd (omega (arith, h)))) (λ f.
       by-test (goodDecoder d)
       (λ g. rw (e, l, m, f, g) (
-        (λ i. record { number = 0; index = 0; next = run-same (inForce told) d os rs a .0 i }),
+        (λ i. record {
+          number = 0;
+          index = 0;
+          limited = overloads (full-same (inForce told) d os rs a i);
+          next = run-same (inForce told) d os rs a .0 i;
+        }),
         λ h. ap pcmBytes (run-same (inForce told) d os rs a .1),
       ))
       (λ g. rw (e, l, m, f, g) (refl, λ h. absurd (omega (arith, h))))))
@@ -52,7 +58,7 @@ module _ (d : Decoder) (told : ℕ) (os rs s t : List ℕ) (a : Alike (inForce t
 -- the word and the state that a decoded chunk gives
 abbrev told-host : List ℕ → Decoded → Returned
 told-host state a =
-    record { word = packed (a .number) (a .index); state = stateAfter (a .number) (decoderBytes (a .next)) state }
+    record { word = packed (a .number) (a .index) (a .limited); state = stateAfter (a .number) (decoderBytes (a .next)) state }
 
 -- THE THEOREM, of a host's call: the same word and the same state bytes, and the same sample bytes if it is accepted
 pub host-call-unheard : (state : List ℕ) (told : ℕ) (os rs s t : List ℕ) → Alike (inForce told) os rs → length s ≡ length t

@@ -31,7 +31,7 @@ hostReplies = record { told = 3; octets = 0xFA ∷ 0x97 ∷ []; bytes = replicat
 
 -- the words of the coding calls and what they sent; the word of the decoding call and what came
 pub record HostWitnessed : Type 0 where
-  pub codes : map (λ (a : Returned). a .word) (answers hostCoding (resetBytes 1) hostCalls) ≡ 0 ∷ packed 4 1 ∷ []
+  pub codes : map (λ (a : Returned). a .word) (answers hostCoding (resetBytes 1) hostCalls) ≡ 0 ∷ packed 4 1 0 ∷ []
   pub sends : hostSent (resetBytes 1) hostCalls ≡ 0xFA ∷ 0x94 ∷ []
   pub decodes : map (λ (a : Returned). a .word) (answers hostDecoding (resetBytes 2) hostReplies) ≡ 0 ∷ []
   pub comes : received (hostCame (resetBytes 2) hostReplies) ≡ 0xFA ∷ 0x97 ∷ []

@@ -5,7 +5,7 @@ use mathlib.Core.Path.{_≡_, refl, sym, ap, _∙_}
 use mathlib.Core.List.{List}
 use borrow.Author.Tests.{eqb-true, eqb-false}
 use lib.IntN.{ℤ}
-use Rattle.g722.specs.Steps.{joinedOf, pairsAfter, joinedAfter, joined, joinCall}
+use Rattle.g722.specs.Steps.{joinedInFull, joinedOf, pairsAfter, joinedAfter, joined, joinCall}
 use Rattle.g722.specs.declared.Decoder.{Decoder}
 use Rattle.g722.specs.declared.Decoded.{Decoded}
 use Rattle.promises.specs.Accepted.{joined-paired, joined-run}
@@ -36,7 +36,7 @@ joining =
     }
 
 -- what an accepted call is, of its pairs
-joins : (d : Decoder) (k : JoinInput) → joinCall d (k .low) (k .high) (k .samples) .answer .number ≡ 0
+pub joins : (d : Decoder) (k : JoinInput) → joinCall d (k .low) (k .high) (k .samples) .answer .number ≡ 0
     → joinCall d (k .low) (k .high) (k .samples) ≡ joined d (lows (joining .given k)) (highs (joining .given k))
 joins d k h =
     let e = joined-paired d (k .low) (k .high) (k .samples) h in
@@ -44,7 +44,7 @@ joins d k h =
     ∙ (λ i. joined d (sym (lows-paired (k .low) (k .high) e) i) (sym (highs-paired (k .low) (k .high) e) i))
 
 pub joining-runs : Runs joining
-unfolding joined joinedAfter joinedOf pairsAfter
+unfolding joined joinedAfter joinedInFull joinedOf pairsAfter
 joining-runs =
     record {
       after-none = λ d. refl;

@@ -6,6 +6,7 @@ pub mod Index
 pub mod Steps
 -- sequences of calls
 pub mod Through
+pub mod Lamp
 pub mod StepRuns
 pub mod Sequences
 pub mod HearCalls
@@ -46,6 +47,8 @@ pub mod HostWitness
 -- the conference desk
 pub mod DeskCalls
 pub mod DeskEnds
+-- the counts of them all
+pub mod LampCalls
 -- the running code
 pub mod Made
 pub mod Running
@@ -62,3 +65,4 @@ pub mod AllowedSteps
 pub mod AllowedHost
 pub mod AllowedTurns
 pub mod RunningDesk
+pub mod RunningLamp

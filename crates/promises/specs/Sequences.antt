@@ -3,23 +3,23 @@
 -- Assumes nothing.
 use mathlib.Core.Path.{_≡_, refl, ap, _∙_}
 use mathlib.Core.Bool.{true}
-use mathlib.Core.List.{List, [], _∷_, _++_}
-use Prim.Native.Nat.{ℕ, zero, suc, _*_}
-use native.Mathlib.Omega.{arith}
+use mathlib.Core.List.{List}
+use Prim.Native.Nat.{ℕ}
 use borrow.Author.Tests.{eqb-true, eqb-false}
 use lib.IntN.{ℤ}
 use lib.ListN.{length}
 use Rattle.g722.specs.Quantise.{inForce}
 use Rattle.g722.specs.Records.{allInRange}
-use Rattle.g722.specs.Coding.{coderStep, octetOf, octetsOf, coderAfter, coded, codeCall}
+use Rattle.g722.specs.Coding.{octetsOf, coderAfter, coded, codeCall}
 use Rattle.g722.specs.Decoding.{decoded, decodeCall}
 use Rattle.g722.specs.declared.Coder.{Coder}
 use Rattle.g722.specs.declared.Coded.{Coded}
 use Rattle.g722.specs.declared.Decoder.{Decoder}
 use Rattle.g722.specs.declared.Decoded.{Decoded}
 use Rattle.facts.specs.Lengths.{twice}
+use Rattle.facts.specs.CodedRuns.{Pairs, pairs, coder-join, octets-join}
 use Rattle.facts.specs.Range.{run-in-range}
-use Rattle.facts.specs.Told.{Told, decoderRun, samplesRun, marked, decoder-run, samples-run, decoder-join, samples-join}
+use Rattle.facts.specs.Told.{Told, decoderRun, fullRun, samplesRun, marked, decoder-run, samples-run, decoder-join, samples-join}
 use Rattle.promises.specs.Accepted.{coded-fits, coded-run, decoded-run}
 use Rattle.promises.specs.Refused.{code-beside, decode-beside}
 use Rattle.promises.specs.Through.{Calls, Runs, through, lefts, taken, as-one-run, left-as-one-run}
@@ -47,28 +47,7 @@ coding =
       out = octetsOf;
     }
 
--- a list of whole pairs
-data Pairs : List ℤ → Type 0 where
-  none : Pairs []
-  more : {x y : ℤ} {rest : List ℤ} → Pairs rest → Pairs (x ∷ y ∷ rest)
-
-pairs : (s : List ℤ) (n : ℕ) → length s ≡ 2 * n → Pairs s
-pairs [] n e = none
-pairs (x ∷ []) n e = absurd (omega arith)
-pairs (x ∷ y ∷ rest) zero e = absurd (omega arith)
-pairs (x ∷ y ∷ rest) (suc n) e = more (pairs rest n (omega arith))
-
-coder-join : {s : List ℤ} (c : Coder) (t : List ℤ) → Pairs s → coderAfter c (s ++ t) ≡ coderAfter (coderAfter c s) t
-unfolding coderAfter
-coder-join c t none = refl
-coder-join c t (more {x = x} {y = y} p) = coder-join (coderStep c x y) t p
-
-octets-join : {s : List ℤ} (c : Coder) (t : List ℤ) → Pairs s → octetsOf c (s ++ t) ≡ octetsOf c s ++ octetsOf (coderAfter c s) t
-unfolding octetsOf coderAfter
-octets-join c t none = refl
-octets-join c t (more {x = x} {y = y} p) = ap (λ (l : List ℕ). octetOf c x y ∷ l) (octets-join (coderStep c x y) t p)
-
-whole : (c : Coder) (k : CodeInput) → codeCall c (k .samples) (k .octets) .answer .number ≡ 0 → Pairs (k .samples)
+pub whole : (c : Coder) (k : CodeInput) → codeCall c (k .samples) (k .octets) .answer .number ≡ 0 → Pairs (k .samples)
 whole c k h = pairs (k .samples) (length (k .octets)) (twice _ _ (coded-fits c (k .samples) (k .octets) h))
 
 pub coding-runs : Runs coding
@@ -136,7 +115,7 @@ module _ (d : Decoder) (k : DecodeInput) (h : decodeCall d (k .told) (k .octets)
   heard-samples = ap (λ o. o .left) (decoded-run d (k .told) (k .octets) (k .samples) h) ∙ samples-run (inForce (k .told)) d (k .octets)
 
 pub decoding-runs : Runs decoding
-unfolding decoderRun samplesRun
+unfolding decoderRun fullRun samplesRun
 decoding-runs =
     record {
       after-none = λ d. refl;

@@ -7,13 +7,13 @@ use mathlib.Core.Bool.{true, false}
 use mathlib.Core.List.{List, [], _++_}
 use borrow.Author.Tests.{eqb-true}
 use lib.IntN.{ℤ}
-use Rattle.g722.specs.Steps.{signalsOf, bandAfter, rhsOf, heardAfter, joinedOf, pairsAfter, joinedAfter}
+use Rattle.g722.specs.Steps.{signalsOf, bandAfter, rhsOf, heardAfter, joinedInFull, joinedOf, pairsAfter, joinedAfter}
 use Rattle.g722.specs.declared.Decoder.{Decoder}
 use Rattle.g722.specs.declared.Decoded.{Decoded}
 use Rattle.facts.specs.Told.{Told, decoderRun, samplesRun}
 use Rattle.promises.specs.Through.{Calls, Runs, done, following, through, ofAccepted, lefts, taken}
 use Rattle.promises.specs.Through.{as-one-run, left-as-one-run, of-as-one-run}
-use Rattle.promises.specs.StepRuns.{received, rlsRun, lowRun, highRun, heard-cut, low-cut, high-cut}
+use Rattle.promises.specs.StepRuns.{received, lowsRun, rlsRun, lowRun, highRun, heard-cut, low-cut, high-cut}
 use Rattle.promises.specs.StepRuns.{Heard, lows, highs, pairs-cut, joined-cut, decodes}
 use Rattle.promises.specs.HearCalls.{hears, hearing, hearing-runs, heard-low, heard-high}
 use Rattle.promises.specs.JoinCalls.{joining, joining-runs}
@@ -72,12 +72,12 @@ went d (join k) e =
 
 samples-one : (d : Decoder) (k : StepInput) → done stepping d k ≡ true
     → samplesLeft d k ≡ joinedOf (d .past) (lows (pairsIn (stepGiven k))) (highs (pairsIn (stepGiven k)))
-unfolding joinedOf
+unfolding joinedInFull joinedOf
 samples-one d (hear k) e = rw (octets-only (hearing .given k) .1)
 samples-one d (join k) e = rw (pairs-only (joining .given k) .1) (joining-runs .left d k e)
 
 low-one : (d : Decoder) (k : StepInput) → done stepping d k ≡ true → lowLeft d k ≡ lowRun d (octetsIn (stepGiven k))
-unfolding rlsRun signalsOf
+unfolding rlsRun lowsRun signalsOf
 low-one d (hear k) e = rw (octets-only (hearing .given k) .0) (heard-low d k (eqb-true _ _ e))
 low-one d (join k) e = rw (pairs-only (joining .given k) .0)
 
@@ -113,7 +113,7 @@ module _ (d : Decoder) (gs rest : List StepGiven) where
   highs-cut = rw (sorted gs rest .0) (high-cut d (octetsIn gs) (octetsIn rest))
 
 pub stepping-runs : Runs stepping
-unfolding octetsIn pairsIn heardAfter bandAfter joinedAfter pairsAfter joinedOf
+unfolding octetsIn pairsIn heardAfter bandAfter joinedAfter pairsAfter joinedInFull joinedOf
 stepping-runs =
     record {
       after-none = λ d. refl;
@@ -139,7 +139,7 @@ module _ (d : Decoder) (ks : List StepInput) where
   steps-record = as-one-run stepping stepping-runs d ks
 
   pub steps-low : ofAccepted stepping lowLeft d ks ≡ rlsRun (d .low) octetsStepped
-  unfolding octetsIn rlsRun signalsOf
+  unfolding octetsIn rlsRun lowsRun signalsOf
   steps-low =
       of-as-one-run stepping stepping-runs lowLeft (λ c gs. lowRun c (octetsIn gs)) (λ c. refl) low-one
       (λ c k e rest. lows-cut c (stepGiven k) rest) d ks

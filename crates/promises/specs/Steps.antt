@@ -20,7 +20,8 @@ use Rattle.g722.specs.declared.Decoder.{Decoder}
 use Rattle.g722.specs.declared.Decoded.{Decoded}
 use Rattle.facts.specs.Lengths.{twice}
 use Rattle.facts.specs.Signals.{rls-length, rhs-length, rls-in-range, rhs-in-range, no-bad-pair, heard-good}
-use Rattle.facts.specs.Steps.{samples-in-steps, record-in-steps}
+use Rattle.g722.specs.Arithmetic.{overloads}
+use Rattle.facts.specs.Steps.{full-in-steps, samples-in-steps, record-in-steps}
 use Rattle.promises.specs.Accepted.{decoded-fits, decoded-from-good, decoded-run, heard-run, joined-run}
 use Rattle.promises.specs.Refused.{hear-beside, join-beside}
 
@@ -57,7 +58,12 @@ joins-heard mode d o s f g =
     let fits : misfit (length s) (length low) ≡ false = rw l f in
     rw (fits, eq-eqb _ _ e, heard-good d o g, no-bad-pair low high e (rls-in-range mode (d .low) o) (rhs-in-range (d .high) o))
     (λ i. record {
-      answer = record { number = 0; index = 0; next = sym (record-in-steps mode d o) i };
+      answer = record {
+        number = 0;
+        index = 0;
+        limited = overloads (sym (full-in-steps mode d o) i);
+        next = sym (record-in-steps mode d o) i;
+      };
       left = sym (samples-in-steps mode d o) i;
     })
 

@@ -19,7 +19,7 @@ use Rattle.g722.specs.declared.Coder.{Coder}
 use Rattle.g722.specs.declared.Coded.{Coded}
 use Rattle.g722.specs.declared.Decoder.{Decoder}
 use Rattle.g722.specs.declared.Decoded.{Decoded}
-use Rattle.facts.specs.Told.{Told, decoderRun, samplesRun, marked, decoder-run, samples-run, decoder-join, samples-join}
+use Rattle.facts.specs.Told.{Told, decoderRun, fullRun, samplesRun, marked, decoder-run, samples-run, decoder-join, samples-join}
 use Rattle.promises.specs.Refused.{encode-chunk-beside, decode-chunk-beside}
 use Rattle.promises.specs.Through.{Calls, Runs, done, through, taken, lefts, as-one-run, left-as-one-run}
 use Rattle.promises.specs.Sequences.{CodeInput, coding, coding-runs}
@@ -123,7 +123,7 @@ stored d k e =
     by-test (goodDecoder d) (λ h. rw (f, g, h)) (λ h. no (sym (rw (f, g, h) at e)))))
 
 pub storing-runs : Runs storing
-unfolding decoderRun samplesRun pcmBytes asBytes decoded
+unfolding decoderRun fullRun samplesRun pcmBytes asBytes decoded
 storing-runs =
     record {
       after-none = λ d. refl;

@@ -20,10 +20,11 @@ use Rattle.g722.specs.Band.{recons, highAfter}
 use Rattle.g722.specs.Octet.{lowWord}
 use Rattle.g722.specs.Records.{goodDecoder}
 use Rattle.g722.specs.Coding.{misfit}
-use Rattle.g722.specs.Decoding.{rlOf, rhOf, samplesOf, decoderAfter}
+use Rattle.g722.specs.Decoding.{ylOf, yhOf, rlOf, rhOf, samplesInFull, samplesOf, decoderAfter}
 use Rattle.g722.specs.Decoding.{notDecoded, decoded, decodeCall}
-use Rattle.g722.specs.Steps.{signalsOf, bandAfter, lowNext, highNext, rlsOf, rhsOf, heardAfter, joinedOf, joinedAfter}
-use Rattle.facts.specs.Steps.{samples-in-steps, record-in-steps}
+use Rattle.g722.specs.Steps.{signalsOf, bandAfter, lowNext, highNext, ylsOf, yhsOf, rlsOf, rhsOf, heardAfter}
+use Rattle.g722.specs.Steps.{joinedInFull, joinedOf, joinedAfter}
+use Rattle.facts.specs.Steps.{full-in-steps, samples-in-steps, record-in-steps}
 use Rattle.facts.specs.Upper.{upperSix, low-by-four, upper-low, upper-high}
 use Rattle.g722.specs.declared.Band.{Band}
 use Rattle.g722.specs.declared.Decoder.{Decoder}
@@ -63,13 +64,21 @@ upper mode o r e =
     (λ u. rw (t, u) at e))
 
 module _ (mode : ℕ) (s : Band) (o r : ℕ) (e : heardBits mode o ≡ heardBits mode r) where
+  yl-same : ylOf mode s o ≡ ylOf mode s r
+  unfolding ylOf
+  yl-same = ap (recons s) (heard-low mode o r (s .factors .scale) e)
+
+  yh-same : yhOf s o ≡ yhOf s r
+  unfolding yhOf
+  yh-same = ap (λ (w : ℕ). recons s (invqah w (s .factors .scale))) (upper-high o r (upper mode o r e))
+
   rl-same : rlOf mode s o ≡ rlOf mode s r
   unfolding rlOf
-  rl-same = ap (λ (q : ℤ). limit (recons s q)) (heard-low mode o r (s .factors .scale) e)
+  rl-same = ap limit yl-same
 
   rh-same : rhOf s o ≡ rhOf s r
   unfolding rhOf
-  rh-same = ap (λ (w : ℕ). limit (recons s (invqah w (s .factors .scale)))) (upper-high o r (upper mode o r e))
+  rh-same = ap limit yh-same
 
   low-same : lowNext s o ≡ lowNext s r
   low-same = low-by-four s (lowWord o) (lowWord r) (upper-low o r (upper mode o r e))
@@ -97,7 +106,15 @@ band-same mode signal next f g s (o ∷ os) (r ∷ rs) e =
       ap (λ (b : Band). bandAfter next b os) to ∙ rest .1,
     )
 
--- THE LAW, of the first step: the low signals, the high signals and the record
+-- THE LAWS, of the first step: the signals in full, which are counted; and the low signals, the high signals and the record
+pub counted-same : (mode : ℕ) (d : Decoder) (os rs : List ℕ) → Alike mode os rs
+    → (ylsOf mode (d .low) os ≡ ylsOf mode (d .low) rs) × (yhsOf (d .high) os ≡ yhsOf (d .high) rs)
+unfolding ylsOf yhsOf
+counted-same mode d os rs a = (
+  band-same mode (ylOf mode) lowNext (yl-same mode) (low-same mode) (d .low) os rs a .0,
+  band-same mode yhOf highNext (yh-same mode) (high-same mode) (d .high) os rs a .0,
+)
+
 pub heard-same : (mode : ℕ) (d : Decoder) (os rs : List ℕ) → Alike mode os rs
     → (rlsOf mode (d .low) os ≡ rlsOf mode (d .low) rs) × (rhsOf (d .high) os ≡ rhsOf (d .high) rs) × (heardAfter d os ≡ heardAfter d rs)
 unfolding rlsOf rhsOf heardAfter
@@ -106,7 +123,12 @@ heard-same mode d os rs a =
     let high = band-same mode rhOf highNext (rh-same mode) (high-same mode) (d .high) os rs a in
     (low .0, high .0, λ i. record { low = low .1 i; high = high .1 i; past = d .past })
 
--- and so of decoding, which is what the second step makes of them
+-- and so of decoding, which is what the second step makes of them: its samples in full, its record and its samples
+pub full-same : (mode : ℕ) (d : Decoder) (os rs : List ℕ) → Alike mode os rs → samplesInFull mode d os ≡ samplesInFull mode d rs
+full-same mode d os rs a =
+    let e = heard-same mode d os rs a in
+    full-in-steps mode d os ∙ (λ i. joinedInFull (d .past) (e .0 i) (e .1 i)) ∙ sym (full-in-steps mode d rs)
+
 pub run-same : (mode : ℕ) (d : Decoder) (os rs : List ℕ) → Alike mode os rs
     → (decoderAfter mode d os ≡ decoderAfter mode d rs) × (samplesOf mode d os ≡ samplesOf mode d rs)
 run-same mode d os rs a =
@@ -124,9 +146,10 @@ module _ (d : Decoder) (told : ℕ) (os rs : List ℕ) (s t : List ℤ) (a : Ali
       let m : length os ≡ length rs = sym (length-map os _) ∙ ap length a ∙ length-map rs _ in
       by-test (ltb 3 told) (λ e. rw e) (λ e.
       by-test (misfit (length t) (length rs)) (λ f. rw (e, l, m, f)) (λ f.
-      by-test (goodDecoder d) (λ g. rw (e, l, m, f, g, run-same (inForce told) d os rs a .0)) (λ g. rw (e, l, m, f, g))))
+      by-test (goodDecoder d)
+      (λ g. rw (e, l, m, f, g, run-same (inForce told) d os rs a .0, full-same (inForce told) d os rs a)) (λ g. rw (e, l, m, f, g))))
 
-  -- THE THEOREM, of a call: the same number, index and next record, and the same samples if it is accepted
+  -- THE THEOREM, of a call: the same number, index, count and next record, and the same samples if it is accepted
   pub call-unheard : (decodeCall d told os s .answer ≡ decodeCall d told rs t .answer)
       × (decodeCall d told os s .answer .number ≡ 0 → decodeCall d told os s .left ≡ decodeCall d told rs t .left)
   unfolding decoded
@@ -159,7 +182,7 @@ alike-call : (d : Decoder) (k j : DecodeInput) → Like k j → let x = decoding
 alike-call d k j a = rw (← a .0) (call-unheard d (k .told) (k .octets) (j .octets) (k .samples) (j .samples) (a .1) (a .2))
 
 -- THE THEOREMS, of any sequence of calls, also where the mode changes between calls and where some are refused:
--- from equal records the same number and the same record of each call, and the same samples of the accepted ones
+-- from equal records the same number, count and record of each call, and the same samples of the accepted ones
 
 pub answers-unheard : {ks js : List DecodeInput} (d : Decoder) → AlikeCalls ks js → answers decoding d ks ≡ answers decoding d js
 answers-unheard d a = answers-alike decoding Like alike-call d (each a)

@@ -4,12 +4,13 @@
 -- Assumes nothing.
 use mathlib.Core.Path.{_≡_, refl, sym, ap, _∙_}
 use mathlib.Core.List.{List}
-use Prim.Native.Nat.{ℕ}
+use Prim.Native.Nat.{ℕ, _+_}
 use native.Mathlib.Omega.{arith}
 use lib.Dec.{ltb}
 use lib.IntN.{ℤ}
 use lib.ListN.{length, length-map}
 use Rattle.laws.specs.Order.{by-test}
+use Rattle.g722.specs.Arithmetic.{overloads}
 use Rattle.g722.specs.Quantise.{inForce}
 use Rattle.g722.specs.Records.{goodDecoder}
 use Rattle.g722.specs.Steps.{unpaired, notHeard, heard, hearCall}
@@ -18,9 +19,9 @@ use Rattle.promises.specs.Through.{answers}
 use Rattle.promises.specs.StepRuns.{paired}
 use Rattle.promises.specs.HearCalls.{HearInput, hears, hearing, hearThrough, lowThrough, highThrough}
 use Rattle.promises.specs.Alike.{Each, answers-alike, state-alike, of-alike}
-use Rattle.promises.specs.Unheard.{Alike, heard-same}
+use Rattle.promises.specs.Unheard.{Alike, counted-same, heard-same}
 
--- THE THEOREM, of a call: the same number, index and next record, and the same signals if it is accepted
+-- THE THEOREM, of a call: the same number, index, count and next record, and the same signals if it is accepted
 module _ (d : Decoder) (told : ℕ) (os rs : List ℕ) (x y u v : List ℤ)
     (a : Alike (inForce told) os rs) (l : length x ≡ length u) (m : length y ≡ length v) where
   pub hear-unheard : (hearCall d told os x y .answer ≡ hearCall d told rs u v .answer)
@@ -29,11 +30,12 @@ module _ (d : Decoder) (told : ℕ) (os rs : List ℕ) (x y u v : List ℤ)
   hear-unheard =
       let n : length os ≡ length rs = sym (length-map os _) ∙ ap length a ∙ length-map rs _ in
       let same = heard-same (inForce told) d os rs a in
+      let full = counted-same (inForce told) d os rs a in
       by-test (ltb 3 told) (λ e. rw e (refl, λ h. absurd (omega (arith, h)))) (λ e.
       by-test (unpaired (length rs) (length u) (length v)) (λ f. rw (e, l, m, n, f) (refl, λ h. absurd (omega (arith, h)))) (λ f.
       by-test (goodDecoder d)
       (λ g. rw (e, l, m, n, f, g) (
-        λ i. record { number = 0; index = 0; next = same .2 i },
+        λ i. record { number = 0; index = 0; limited = overloads (full .0 i) + overloads (full .1 i); next = same .2 i },
         λ h i. (same .0 i, same .1 i),
       ))
       (λ g. rw (e, l, m, n, f, g) (refl, λ h. absurd (omega (arith, h))))))

@@ -7,7 +7,7 @@ use Prim.Native.Nat.{ℕ, _*_}
 use lib.IntN.{pos}
 use lib.ListN.{replicate, take}
 use Rattle.laws.specs.Clamp.{clamp}
-use Rattle.g722.specs.Arithmetic.{neg, add, sub, mul, limit, sameSign, within, equal}
+use Rattle.g722.specs.Arithmetic.{neg, add, sub, mul, sameSign, within, equal, limit, limited, overloads}
 use Rattle.g722.specs.Tables.{h, q6, qq6, qq5, qq4, wl, q2, qq2, wh, ila}
 use Rattle.g722.specs.Words.{toSix, fromFour, fromSix, fromFive, toTwo, fromTwo}
 use Rattle.g722.specs.Quantise.{level, atOrBelow, quantise, quantl, quanth, inverse, invqal, invqah, inForce, invqbl}
@@ -18,9 +18,10 @@ use Rattle.g722.specs.Mirror.{sum, coefficient, xin, accuma, accumb, lowt, high
 use Rattle.g722.specs.Octet.{octet}
 use Rattle.g722.specs.Records.{inRange, allInRange, goodPoles, goodFactors, goodLow, goodHigh, goodCoder, goodDecoder}
 use Rattle.g722.specs.Records.{resetBand, resetCoder, resetDecoder}
-use Rattle.g722.specs.Coding.{window, ilOf, ihOf, octetOf, coderStep, octetsOf, coderAfter, firstBad, misfit, notCoded, coded, codeCall}
-use Rattle.g722.specs.Decoding.{rlOf, rhOf, rlRow, rhRow, firstOf, secondOf, decoderStep, samplesOf, decoderAfter}
-use Rattle.g722.specs.Decoding.{notDecoded, decoded, decodeCall}
+use Rattle.g722.specs.Coding.{window, ilOf, ihOf, octetOf, coderStep, octetsOf, coderAfter, splitInFull}
+use Rattle.g722.specs.Coding.{firstBad, misfit, notCoded, coded, codeCall}
+use Rattle.g722.specs.Decoding.{ylOf, yhOf, rlOf, rhOf, rlRow, rhRow, firstOf, secondOf, decoderStep}
+use Rattle.g722.specs.Decoding.{samplesInFull, samplesOf, decoderAfter, notDecoded, decoded, decodeCall}
 use Rattle.g722.specs.Cue.{bits, bitsOf, spelt, carrying, unfilled, dataNumber, dataCall, putCall}
 use Rattle.facts.specs.Upper.{upperSix}
 use Rattle.g722.specs.declared.Coded.{Coded}
@@ -67,7 +68,7 @@ pub record Witnessed : Type 0 where
   pub comes : received (octetsTaken resetDecoder (map withData parcels)) ≡ flatMap laden parcels
 
 pub witnessed : Witnessed
-unfolding zipWith flatMap clamp add sub mul limit sameSign within equal h q6 qq6 qq5 qq4 wl q2 qq2 wh ila
+unfolding zipWith flatMap clamp add sub mul sameSign within equal limit limited overloads h q6 qq6 qq5 qq4 wl q2 qq2 wh ila
     toSix fromFour fromSix fromFive toTwo fromTwo
     level atOrBelow quantise quantl quanth inverse invqal invqah inForce invqbl
     logsc logscl logsch scaleAt scalel scaleh lowFactors highFactors
@@ -75,8 +76,8 @@ unfolding zipWith flatMap clamp add sub mul limit sameSign within equal h q6 qq6
     nextZeros nextPoles nextBand lowAfter highAfter
     sum coefficient xin accuma accumb lowt hight xd xs accumc accumd octet
     inRange allInRange goodPoles goodFactors goodLow goodHigh goodCoder goodDecoder resetBand resetCoder resetDecoder
-    window ilOf ihOf octetOf coderStep octetsOf coderAfter firstBad misfit notCoded coded codeCall
-    rlOf rhOf rlRow rhRow firstOf secondOf decoderStep samplesOf decoderAfter notDecoded decoded decodeCall
+    window ilOf ihOf octetOf coderStep octetsOf coderAfter splitInFull firstBad misfit notCoded coded codeCall
+    ylOf yhOf rlOf rhOf rlRow rhRow firstOf secondOf decoderStep samplesInFull samplesOf decoderAfter notDecoded decoded decodeCall
     bits bitsOf spelt carrying unfilled dataNumber dataCall putCall answers ofAccepted
 witnessed = record { codes = refl; sends = refl; puts = refl; carries = refl; decodes = refl; comes = refl }
 

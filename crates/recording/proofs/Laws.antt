@@ -11,15 +11,16 @@ use lib.ListN.{length, getD, take, drop, length-drop}
 use lib.Seq.{length-take-le}
 use borrow.Author.Tests.{le-ltb, eq-eqb, ne-eqb}
 use Rattle.laws.specs.Outcome.{Does, does}
+use Rattle.g722.specs.Arithmetic.{overloads}
 use Rattle.g722.specs.Quantise.{inForce}
 use Rattle.g722.specs.Records.{goodDecoder}
 use Rattle.g722.specs.Coding.{misfit}
+use Rattle.g722.specs.Decoding.{decoded}
 use Rattle.g722.specs.Steps.{rlsOf, rhsOf, heardAfter, unpaired, heard, hearCall, joined, joinCall}
 use Rattle.g722.specs.declared.Decoder.{Decoder}
 use Rattle.g722.specs.declared.Decoded.{Decoded}
-use Rattle.facts.specs.Steps.{samples-in-steps, record-in-steps}
+use Rattle.facts.specs.Steps.{full-in-steps, samples-in-steps, record-in-steps}
 use Rattle.facts.specs.Signals.{rls-length, rhs-length, rls-in-range, rhs-in-range, no-bad-pair, heard-good}
-use Rattle.decoder.specs.Step.{runOf}
 use Rattle.block.specs.Calls.{readCall}
 use Rattle.block.specs.Formed.{Allowed}
 use Rattle.block.specs.declared.BlockRead.{BlockRead}
@@ -67,15 +68,17 @@ module _ (mode : ℕ) (d : Decoder) (os : List ℕ) (says : Allowed mode (length
       → length low₀ ≡ length os → length high₀ ≡ length os → length samples ≡ 2 * length os
       → Does (hearCall d mode os low₀ high₀) first (low, high)
       → Does (joinCall (first .next) low high samples) second last
-      → Does (runOf mode d os) (second .next) last
-  unfolding heardAfter heard joined
+      → Does (decoded mode d os) second last
+  unfolding heardAfter heard joined decoded
   stepped low₀ high₀ samples a b e x y =
       let h = rw (hear-run low₀ high₀ a b) at x in
       let l = ap (λ (z : List ℤ × List ℤ). z .0) (h .left) in
       let r = ap (λ (z : List ℤ × List ℤ). z .1) (h .left) in
       let j = rw (l, r, h .answer, join-run samples e) at y in
+      let full = sym (full-in-steps mode d os) in
+      let next = sym (record-in-steps mode d os) in
       record {
-        answer = ap (λ (z : Decoded). z .next) (j .answer) ∙ sym (record-in-steps mode d os);
+        answer = j .answer ∙ λ i. record { number = 0; index = 0; limited = overloads (full i); next = next i };
         left = j .left ∙ sym (samples-in-steps mode d os);
       }
 
@@ -99,9 +102,9 @@ module _ (b : List ℕ) (r : BlockRead) (e : r ≡ readCall b) (h : r .number �
         rw n (length-take-le (r .count) (drop 12 b) (rw (length-drop, bounds .size) (omega (arith, says)))) in
         rw (m, f) ((says, start-good p r g), length-take-le (2 * r .count) samples k)
 
-    pub played : {d next : Decoder} {last : List ℤ} {answer : Played} → d ≡ decoderFor p r
-        → Does (runOf (r .mode) d octets) next last
-        → answer ≡ reported r next (last ++ drop (2 * r .count) samples)
+    pub played : {d : Decoder} {done : Decoded} {last : List ℤ} {answer : Played} → d ≡ decoderFor p r
+        → Does (decoded (r .mode) d octets) done last
+        → answer ≡ reported r done (last ++ drop (2 * r .count) samples)
         → Does (playCall p b samples) answer (last ++ drop (2 * r .count) samples)
     unfolding playedFrom
     played f x a =
@@ -111,19 +114,20 @@ module _ (b : List ℕ) (r : BlockRead) (e : r ≡ readCall b) (h : r .number �
         does (play-called p b samples r e h k g) (a ∙ λ i. reported r (y .answer i) (y .left i ++ rest)) (λ i. y .left i ++ rest)
 
 -- what is reported, from the samples at its ends
-pub as-reported : (r : BlockRead) (next : Decoder) (samples : List ℤ) {first last : ℤ}
+pub as-reported : (r : BlockRead) (done : Decoded) (samples : List ℤ) {first last : ℤ}
     → first ≡ getD samples 0 (pos 0) → last ≡ getD samples (2 * r .count - 1) (pos 0)
     → record {
       number = 0;
       index = 0;
-      next = record { decoder = next; begun = true; take = r .take };
+      next = record { decoder = done .next; begun = true; take = r .take };
       take = r .take;
       block = r .block;
       mode = r .mode;
       count = r .count;
       first = first;
       last = last;
+      limited = done .limited;
     }
-    ≡ reported r next samples
+    ≡ reported r done samples
 unfolding reported
-as-reported r next samples f l = rw (f, l)
+as-reported r done samples f l = rw (f, l)

@@ -8,7 +8,8 @@ use lib.IntN.{ℤ, pos}
 use lib.ListN.{length, getD, take, drop}
 use Rattle.laws.specs.Outcome.{Outcome}
 use Rattle.g722.specs.Records.{goodDecoder, resetDecoder}
-use Rattle.g722.specs.Decoding.{samplesOf, decoderAfter}
+use Rattle.g722.specs.Decoding.{decoded}
+use Rattle.g722.specs.declared.Decoded.{Decoded}
 use Rattle.g722.specs.declared.Decoder.{Decoder}
 use Rattle.block.specs.Calls.{readCall}
 use Rattle.block.specs.declared.BlockRead.{BlockRead}
@@ -38,21 +39,22 @@ decoderFor p b = cond (afresh p b) resetDecoder (p .decoder)
 -- a refusal gives the player's record back as it came, and 0 in every other field
 abbrev pub notPlayed : ℕ → Player → Played
 notPlayed number p =
-    record { number = number; index = 0; next = p; take = 0; block = 0; mode = 0; count = 0; first = pos 0; last = pos 0 }
+    record { number = number; index = 0; next = p; take = 0; block = 0; mode = 0; count = 0; first = pos 0; last = pos 0; limited = 0 }
 
--- what is said of a block that was played, from the decoder's next record and the samples; the player keeps the block's take
-unfoldable pub reported : BlockRead → Decoder → List ℤ → Played
-reported b next samples =
+-- what is said of a block that was played, from the decoder's answer and the samples; the player keeps the block's take
+unfoldable pub reported : BlockRead → Decoded → List ℤ → Played
+reported b done samples =
     record {
       number = 0;
       index = 0;
-      next = record { decoder = next; begun = true; take = b .take };
+      next = record { decoder = done .next; begun = true; take = b .take };
       take = b .take;
       block = b .block;
       mode = b .mode;
       count = b .count;
       first = getD samples 0 (pos 0);
       last = getD samples (2 * b .count - 1) (pos 0);
+      limited = done .limited;
     }
 
 -- the octets of a block, from byte 12
@@ -62,10 +64,8 @@ octetsIn b = take (readCall b .count) (drop 12 b)
 -- octets decoded from a record, in the mode of their block, into the front of the samples; those behind stay
 unfoldable pub playedFrom : Decoder → BlockRead → List ℕ → List ℤ → Outcome Played (List ℤ)
 playedFrom d b octets rest =
-    record {
-      answer = reported b (decoderAfter (b .mode) d octets) (samplesOf (b .mode) d octets ++ rest);
-      left = samplesOf (b .mode) d octets ++ rest;
-    }
+    let done = decoded (b .mode) d octets in
+    record { answer = reported b (done .answer) (done .left ++ rest); left = done .left ++ rest }
 
 -- reading's refusals, 6, 7 and 8, then 3 where the samples are too few for the octets, then 2 where the record is broken, even if the
 -- block begins a take and does not go on from it

@@ -12,7 +12,8 @@ use lib.Seq.{length-take-le}
 use borrow.Author.Tests.{lt-ltb, le-ltb, ltb-true, ltb-false, eq-eqb, ne-eqb, eqb-true, eqb-false}
 use Rattle.laws.specs.Order.{by-test}
 use Rattle.g722.specs.Records.{goodDecoder}
-use Rattle.g722.specs.Decoding.{samplesOf, decoderAfter}
+use Rattle.g722.specs.Arithmetic.{overloads}
+use Rattle.g722.specs.Decoding.{samplesInFull, samplesOf, decoderAfter, decoded}
 use Rattle.facts.specs.Good.{decoder-reset-good}
 use Rattle.block.specs.Calls.{readCall}
 use Rattle.block.specs.Formed.{Allowed}
@@ -77,10 +78,11 @@ module _ (p : Player) (b : List ℕ) (samples : List ℤ) (h : readCall b .numbe
           count = readCall b .count;
           first = getD left 0 (pos 0);
           last = getD left (2 * readCall b .count - 1) (pos 0);
+          limited = overloads (samplesInFull (readCall b .mode) d (octetsIn b));
         };
         left = left;
       }
-  unfolding playedFrom reported
+  unfolding playedFrom reported decoded
   play-done g = play-called p b samples (readCall b) refl h k g
 
 -- ---- the record that a block starts from is good, if the player's is
@@ -105,6 +107,7 @@ module _ (p : Player) (b : List ℕ) (samples : List ℤ) where
           count = 0;
           first = pos 0;
           last = pos 0;
+          limited = 0;
         };
         left = samples;
       }

@@ -8,7 +8,8 @@ use lib.IntN.{ℤ}
 use lib.ListN.{length, take}
 use lib.Seq.{take-at}
 use Rattle.laws.specs.Outcome.{Outcome}
-use Rattle.g722.specs.Decoding.{samplesOf}
+use Rattle.g722.specs.Arithmetic.{overloads}
+use Rattle.g722.specs.Decoding.{samplesInFull, samplesOf}
 use Rattle.g722.specs.declared.Decoder.{Decoder}
 use Rattle.facts.specs.Told.{Told, decoderRun, samplesRun, marked, decoder-run, samples-run, samples-length}
 use Rattle.block.specs.Calls.{readCall}
@@ -79,3 +80,9 @@ module _ (p : Playing) (piece : List ℕ) (z : played p piece .answer .number �
       samples-length (readCall piece .mode) from (octetsIn piece) ∙ ap (λ (k : ℕ). 2 * k) n in
       rw (play-done (p .player) piece (p .samples) (h .read) (h .room) (h .sound)) (take-at _ _ (2 * readCall piece .count) l)
       ∙ samples-run (readCall piece .mode) from (octetsIn piece)
+
+  -- and the count that is said of it is that of the samples which limiting changed
+  pub limited-is : played p piece .answer .limited ≡ overloads (samplesInFull (readCall piece .mode) from (octetsIn piece))
+  limited-is =
+      let h = play-heard (p .player) piece (p .samples) z in
+      ap (λ (x : Outcome Played (List ℤ)). x .answer .limited) (play-done (p .player) piece (p .samples) (h .read) (h .room) (h .sound))

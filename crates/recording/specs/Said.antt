@@ -7,7 +7,7 @@ use native.Mathlib.Omega.{arith}
 use lib.IntN.{ℤ, pos}
 use lib.ListN.{getD, drop, List·getD-append}
 use Rattle.laws.specs.Outcome.{Outcome}
-use Rattle.g722.specs.Decoding.{samplesOf, decoderAfter}
+use Rattle.g722.specs.Decoding.{samplesOf, decoded}
 use Rattle.g722.specs.declared.Decoder.{Decoder}
 use Rattle.facts.specs.Told.{samples-length}
 use Rattle.block.specs.Calls.{readCall}
@@ -22,7 +22,7 @@ abbrev pub samplesIn : Decoder → List ℕ → List ℤ
 samplesIn d piece = samplesOf (readCall piece .mode) d (octetsIn piece)
 
 abbrev pub said : Decoder → List ℕ → Played
-said d piece = reported (readCall piece) (decoderAfter (readCall piece .mode) d (octetsIn piece)) (samplesIn d piece)
+said d piece = reported (readCall piece) (decoded (readCall piece .mode) d (octetsIn piece) .answer) (samplesIn d piece)
 
 module _ (p : Playing) (piece : List ℕ) (z : readCall piece .number ≡ 0) (r : Ready p) where
   abbrev from : Decoder
@@ -37,7 +37,7 @@ module _ (p : Playing) (piece : List ℕ) (z : readCall piece .number ≡ 0) (r 
       List·getD-append (samplesIn from piece) _ (pos 0) i (omega arith)
 
   pub is-said : played p piece .answer ≡ said from piece
-  unfolding reported
+  unfolding reported decoded
   is-said =
       let some = read-bounds piece z .says .count-least in
       ap (λ (x : Outcome Played (List ℤ)). x .answer) (play-done (p .player) piece (p .samples) z (fits p piece z r) (r .sound))

@@ -5,11 +5,12 @@ ghost use Prim.Native.Nat.{_+_, _*_, _^_, _<_};
 ghost use lib.ListN.{length};
 ghost use Rattle.laws.specs.Outcome.{Does};
 ghost use Rattle.g722.specs.Records.{goodDecoder};
-ghost use Rattle.decoder.specs.Step.{runOf};
+ghost use Rattle.g722.specs.Decoding.{decoded};
 ghost use Rattle.block.specs.Formed.{Allowed};
 ghost use Rattle.recording.specs.Walk.{ended, stood, stepAt, nextAt};
 ghost use Rattle.recording.specs.Play.{startPlayer, begins, decoderFor, notPlayed, playCall};
 use block::BlockRead;
+use g722::Decoded;
 use g722::Decoder;
 
 // A lent recording and the number of the block at which its walk stands.
@@ -43,6 +44,7 @@ pub struct Played {
     pub count: usize,
     pub first: i16,
     pub last: i16,
+    pub limited: u32,
 }
 
 // Nothing is left: the walk stays, and the number is 255, which no block gives.
@@ -181,6 +183,7 @@ fn not_played(number: u8, p: Player) -> Played
         count: 0,
         first: 0,
         last: 0,
+        limited: 0,
     }
 }
 
@@ -192,22 +195,21 @@ fn in_steps(
     low: &mut [i16],
     high: &mut [i16],
     samples: &mut [i16],
-) -> Decoder
+) -> Decoded
     requires { ⌜ Allowed mode (length (now octets)) × (goodDecoder d ≡ true) ⌝ }
     requires { ⌜ (length (now low) ≡ length (now octets)) × (length (now high) ≡ length (now octets)) ⌝ }
     requires { ⌜ length (now samples) ≡ 2 * length (now octets) ⌝ }
-    ensures { λ r. ⌜ Does (runOf mode d (now (octets .entry))) r (now (samples .exit)) ⌝ }
+    ensures { λ r. ⌜ Does (decoded mode d (now (octets .entry))) r (now (samples .exit)) ⌝ }
 {
     let heard = decoder::hear(d, mode, octets, low, high);
-    let done = decoder::join(heard.next, low, high, samples);
-    done.next
+    decoder::join(heard.next, low, high, samples)
 }
 
 // The same with rows of its own, which have room for the signals of any block.
-fn heard_and_joined(d: Decoder, mode: u8, octets: &[u8], samples: &mut [i16]) -> Decoder
+fn heard_and_joined(d: Decoder, mode: u8, octets: &[u8], samples: &mut [i16]) -> Decoded
     requires { ⌜ Allowed mode (length (now octets)) × (goodDecoder d ≡ true) ⌝ }
     requires { ⌜ length (now samples) ≡ 2 * length (now octets) ⌝ }
-    ensures { λ r. ⌜ Does (runOf mode d (now (octets .entry))) r (now (samples .exit)) ⌝ }
+    ensures { λ r. ⌜ Does (decoded mode d (now (octets .entry))) r (now (samples .exit)) ⌝ }
 {
     let n = octets.len();
     let mut low = [0i16; 480];
@@ -233,9 +235,10 @@ pub fn play(p: Player, b: &[u8], samples: &mut [i16]) -> Played
         return not_played(2, p);
     }
     let d = decoder_for(p, read);
-    let next = heard_and_joined(d, read.mode, &b[12..12 + count], &mut samples[..size]);
+    let done = heard_and_joined(d, read.mode, &b[12..12 + count], &mut samples[..size]);
     let first = samples[0];
     let last = samples[size - 1];
+    let next = done.next;
     Played {
         number: 0,
         index: 0,
@@ -250,5 +253,6 @@ pub fn play(p: Player, b: &[u8], samples: &mut [i16]) -> Played
         count: count,
         first: first,
         last: last,
+        limited: done.limited,
     }
 }

@@ -1,4 +1,4 @@
-// What a program says of a refusal.
+// What a program says of a refusal, and of an overload.
 ghost use mathlib.Core.Path.{_≡_};
 ghost use Prim.Native.Nat.{_≤_};
 ghost use lib.ListN.{length};
@@ -18,4 +18,15 @@ pub fn say(number: u8, index: u64)
     let line = lines::refused_line(number, index);
     let bytes = line.bytes;
     write_from(&bytes, line.at);
+}
+
+// Writes the line `overload: COUNT sums limited` to standard error, if there are any. It answers nothing, alike.
+pub fn overload(limited: u64)
+    ensures { λ r. ⌜ r ≡ tt ⌝ }
+{
+    if 0 < limited {
+        let line = lines::overload_line(limited);
+        let bytes = line.bytes;
+        write_from(&bytes, line.at);
+    }
 }

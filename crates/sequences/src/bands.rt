@@ -81,7 +81,8 @@ fn low_word(mode: u8, s: Bands, o: u8) -> Output {
     let high = s.high;
     let t = low_heard(mode, low, o);
     let next = t.next;
-    band_output(t.signal, next, high)
+    let heard = t.signal;
+    band_output(heard.value, next, high)
 }
 
 // The high decoder's word of an octet.
@@ -90,7 +91,8 @@ fn high_word(s: Bands, o: u8) -> Output {
     let high = s.high;
     let t = high_heard(high, o);
     let next = t.next;
-    band_output(t.signal, low, next)
+    let heard = t.signal;
+    band_output(heard.value, low, next)
 }
 
 // What the coders (D or d) or a decoder make of one word.

@@ -9,7 +9,7 @@ fn steady(c: i16, low: i16, high: i16) -> bool {
     let halves = mirror::split(&window);
     let xl = halves.xl;
     let xh = halves.xh;
-    arith::equal(xl, low) && arith::equal(xh, high)
+    arith::equal(xl.value, low) && arith::equal(xh.value, high)
 }
 
 // Counts the samples of which it holds, from the lowest on.

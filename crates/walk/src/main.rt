@@ -40,8 +40,9 @@ fn print(line: Line) -> bool
     write_from(&bytes, line.at)
 }
 
-// The line of what the reader says of a block, with the samples at its ends; or of a refusal after so many others.
-fn line(s: Step, first: i16, last: i16, before: usize) -> Line
+// The line of what the reader says of a block, with the samples at its ends and the count of the limited ones; or of a refusal after so
+// many others.
+fn line(s: Step, first: i16, last: i16, limited: u32, before: usize) -> Line
     ensures { λ r. ⌜ r .at ≤ 160 ⌝ }
 {
     let b = s.block;
@@ -49,7 +50,7 @@ fn line(s: Step, first: i16, last: i16, before: usize) -> Line
     if number != 0 {
         return lines::refused_line(number, before as u64);
     }
-    lines::block_line(b.take, b.block, b.mode, b.count, first, last)
+    lines::block_line(b.take, b.block, b.mode, b.count, first, last, limited)
 }
 
 // What a block leaves: the player after it, and whether to walk on.
@@ -62,7 +63,7 @@ struct Onward {
 fn list(p: Player, s: Step, before: usize, block: &[u8], samples: &mut [i16]) -> Onward {
     let played = recording::play(p, block, samples);
     let next = played.next;
-    let printed = print(line(s, played.first, played.last, before));
+    let printed = print(line(s, played.first, played.last, played.limited, before));
     if played.number != 0 {
         io::write_all(STDERR_FILENO, b"stopped at a block that is refused\n");
     }
@@ -75,7 +76,7 @@ fn list(p: Player, s: Step, before: usize, block: &[u8], samples: &mut [i16]) ->
 // Past the last whole block: the end, or a shorter piece.
 fn finish(s: Step, before: usize) {
     if !s.end {
-        print(line(s, 0, 0, before));
+        print(line(s, 0, 0, 0, before));
         io::write_all(STDERR_FILENO, b"stopped at a block that is refused\n");
     }
 }

@@ -86,7 +86,8 @@ fn code(coder: &mut Coder, samples: &[i16]) -> Result<(), Fault> {
         coder.encode(&samples[..2 * whole], &mut octets)?;
     }
     io::stdout().write_all(&octets)?;
-    Ok(done?)
+    done?;
+    Ok(())
 }
 
 /// Gives standard input to calls of 8000 times four bytes, as numbers. A place of a refusal, of which a
@@ -165,7 +166,8 @@ fn select(decoder: &mut Decoder, pairs: &[i16]) -> Result<(), Fault> {
         decoder.join(&low, &high, &mut samples)?;
     }
     io::stdout().write_all(&bytes_of(&samples))?;
-    Ok(done?)
+    done?;
+    Ok(())
 }
 
 /// Joins standard input in calls of 8000 pairs from reset.
@@ -174,8 +176,20 @@ fn join(wrong: Wrong) -> Result<(), Fault> {
     by_fours(1, |pairs| select(&mut decoder, pairs))
 }
 
-/// Mixes the ticks on standard input from reset. The words after the number of ports are a mode for
-/// each and perhaps a wrong variant.
+/// Mixes the ticks of a turn and says how many sums were limited, where any were.
+fn turn(desk: &mut Desk, modes: &[u8], octets: &[u8], sent: &mut [u8]) -> Result<(), Refusal> {
+    let mut limited = 0;
+    for (tick, room) in octets.chunks(modes.len()).zip(sent.chunks_mut(modes.len())) {
+        limited += desk.tick(modes, tick, room)?;
+    }
+    if limited > 0 {
+        eprintln!("overload: {limited} sums limited");
+    }
+    Ok(())
+}
+
+/// Mixes the ticks on standard input from reset, in turns of 1000. The words after the number of ports
+/// are a mode for each and perhaps a wrong variant.
 fn mix(ports: &str, words: &[String]) -> Result<(), Fault> {
     let ports = desk::number_of_ports(number::<u8>(ports)?.into())?;
     if ![ports, ports + 1].contains(&words.len()) {
@@ -185,8 +199,8 @@ fn mix(ports: &str, words: &[String]) -> Result<(), Fault> {
     let modes: Result<Vec<u8>, Refusal> = words[..ports].iter().map(|word| mode_of(word)).collect();
     let (modes, octets) = (modes?, everything()?);
     let mut sent = vec![0; octets.len() / ports * ports];
-    for (tick, room) in octets.chunks(ports).zip(sent.chunks_mut(ports)) {
-        desk.tick(&modes, tick, room)?;
+    for (ticks, room) in octets.chunks(1000 * ports).zip(sent.chunks_mut(1000 * ports)) {
+        turn(&mut desk, &modes, ticks, room)?;
     }
     io::stdout().write_all(&sent)?;
     if sent.len() < octets.len() {

@@ -1,12 +1,10 @@
 -- `bounds::good_poles` meets its contract, by those of its calls.
-use mathlib.Core.Path.{_≡_, sym, subst}
-use mathlib.Core.Bool.{true, _&&_}
-use lib.Dec.{T}
-use lib.IntN.{ℤ, pos}
-use lib.Signed.{leZ, _≤ℤ_, leZ-yes}
-use mir.Facts.{and-yes}
+use mathlib.Core.Path.{_≡_}
+use mathlib.Core.Bool.{_&&_}
+use lib.IntN.{pos}
 use Rattle.laws.specs.Back.{back16, got16}
 use Rattle.g722.specs.Arithmetic.{neg, sub, within}
+use Rattle.g722.specs.Within.{within-ends}
 use Rattle.laws.specs.Order.{by-test}
 use Rattle.g722.specs.Band.{reach}
 use Rattle.facts.specs.Reach.{reach-exact, reach-negated}
@@ -15,17 +13,14 @@ use Rattle.g722.specs.declared.Poles.{Poles}
 use Rattle.bounds.proofs.good_poles.Statement.{statement}
 use Rattle.bounds.proofs.good_poles.Tie as tie
 
--- what the test says
-ends : (lo hi z : ℤ) → within lo hi z ≡ true → (lo ≤ℤ z) × (z ≤ℤ hi)
-unfolding within
-ends lo hi z e = let t = and-yes (leZ lo z) (leZ z hi) (subst T (sym e) tt) in (leZ-yes (t .0), leZ-yes (t .1))
-
 -- where the second coefficient is within its bound the code meets no stop; where it is not, the rest does not matter
 exact : (s : Poles) → (within (neg 12288) (pos 12288) (s .a2) && within (sub (pos 0) (reach (s .a2))) (reach (s .a2)) (s .a1)) ≡ goodPoles s
 unfolding goodPoles
 exact s =
     by-test (within (neg 12288) (pos 12288) (s .a2))
-    (λ e. let b = ends (neg 12288) (pos 12288) (s .a2) e in rw (reach-exact (s .a2) (b .0) (b .1), reach-negated (s .a2) (b .0) (b .1)))
+    (λ e.
+    let b = within-ends (neg 12288) (pos 12288) (s .a2) e in
+    rw (reach-exact (s .a2) (b .0) (b .1), reach-negated (s .a2) (b .0) (b .1)))
     (λ e. rw e)
 
 returns : tie.Need-returns

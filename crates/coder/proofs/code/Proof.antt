@@ -6,11 +6,10 @@ use borrow.Author.Needs.{needs}
 use borrow.Author.Tests.{not-true, not-false}
 use lib.ListN.{length}
 use Rattle.laws.specs.Outcome.{does}
-use Rattle.facts.specs.Lengths.{twice}
+use Rattle.facts.specs.Lengths.{twice, few}
 use Rattle.facts.specs.Range.{none-bad, some-bad}
 use Rattle.g722.specs.Records.{goodCoder}
-use Rattle.g722.specs.Coding.{misfit, notCoded, coded}
-use Rattle.g722.specs.declared.Coder.{Coder}
+use Rattle.g722.specs.Coding.{misfit, notCoded}
 use Rattle.coder.proofs.Laws.{call-misfit, call-broken, call-bad, call-done}
 use Rattle.coder.proofs.code.Statement.{statement}
 use Rattle.coder.proofs.code.Tie as tie
@@ -19,7 +18,7 @@ returns : tie.Need-returns
 unfolding notCoded
 returns c =
     let t = c .before in
-    does (call-misfit _ _ _ (sym (t .before .before .misfit .ensures) ∙ t .if1 .taken)) (c .answer .ensures) refl
+    does (call-misfit _ _ _ (sym (t .before .before .misfit .ensures) ∙ t .if1 .taken)) (c .refused .ensures) refl
 
 -- past the first test
 fits : (e : tie.Else1)
@@ -31,7 +30,7 @@ unfolding notCoded
 returns-2 c =
     let t = c .before in
     does (call-broken _ _ _ (fits (t .before)) (sym (t .before .before .good-coder .ensures) ∙ not-true _ (t .if2 .taken)))
-    (c .answer2 .ensures) refl
+    (c .refused2 .ensures) refl
 
 -- past the second
 from-good : (e : tie.Else2) → goodCoder (e .before .before .before .before .before .args .c) ≡ true
@@ -46,20 +45,21 @@ returns-3 c =
     let bad = some-bad _ (sym (t .before .all-in-range .ensures) ∙ not-true _ (t .if3 .taken)) in
     let args = g .before .before .before .before .before .args in
     does (call-bad _ _ _ (fits (g .before)) (from-good g) bad)
-    (c .answer3 .ensures ∙ ap (λ (n : ℕ). record { number = 4; index = n; next = args .c }) (b .first-bad .ensures)) refl
+    (c .refused3 .ensures ∙ ap (λ (n : ℕ). record { number = 4; index = n; limited = 0; next = args .c }) (b .first-bad .ensures)) refl
 
 returns-4 : tie.Need-returns-4
-unfolding coded
 returns-4 c =
-    let r = c .before .before .before in
+    let r = c .before .before in
     let e = r .before .before in
     let g = e .before .before in
     let clean = none-bad _ (sym (e .before .all-in-range .ensures) ∙ not-false _ (e .if3 .left)) in
     does (call-done _ _ _ (fits (g .before)) (from-good g) clean)
-    (c .answer4 .ensures ∙ ap (λ (s : Coder). record { number = 0; index = 0; next = s }) (r .run .ensures .answer)) (r .run .ensures .left)
+    (r .run .ensures .answer) (r .run .ensures .left)
 
 run-requires : tie.Need-run-requires
-run-requires c κs = twice _ _ (fits (c .before .before .before .before))
+run-requires c κs =
+    let fit = fits (c .before .before .before .before) in
+    (few _ _ fit, twice _ _ fit)
 
 pub code-spec : {M : Type 1} → statement M
 code-spec =
@@ -76,6 +76,5 @@ code-spec =
     (λ c κs. tt)
     returns-3
     run-requires
-    (λ c κs. tt)
     (λ c. search needs)
     returns-4)

@@ -1,73 +1,81 @@
 -- `coder::run` meets its contract: what is left to do from here, from the record as it is, gives the whole.
-use Prim.Native.Nat.{_≤_, _*_, _-_, _+_, _<_, zero-le}
-use mathlib.Core.Path.{_≡_, refl, sym, ap, _∙_}
-use mathlib.Core.List.{List, _++_, _∷_}
-use Prim.Native.Nat.{ℕ}
+use mathlib.Core.Path.{_∙_}
+use Prim.Native.Nat.{ℕ, _≤_, _*_, _-_, _+_, zero-le}
 use native.Mathlib.Omega.{arith}
-use lib.IntN.{pos}
-use lib.ListN.{length, take, drop, getD, length-set}
-use Rattle.laws.specs.Back.{back16}
-use Rattle.laws.specs.Turns.{put-one}
-use Rattle.g722.specs.Coding.{octetsOf, coderAfter}
-use Rattle.coder.specs.declared.Sent.{Sent}
-use Rattle.coder.specs.Step.{sentOf}
-use Rattle.coder.proofs.Laws.{record-turn, octets-turn, record-end, octets-end}
+use lib.ListN.{length}
+use borrow.Rule.Slice.PartMut.{mid-len}
+use Rattle.g722.specs.Coding.{coded}
+use Rattle.coder.proofs.Blocks.{RunSoFar, run-begun, block-count, block-more, record-ended, count-ended, octets-ended}
 use Rattle.coder.proofs.run.Statement.{statement}
 use Rattle.coder.proofs.run.Tie as tie
 
 abbrev Inv-loop : tie.InvT-loop
-Inv-loop samples octets₀ s₀ i₀ i-end octets s i =
-    (i ≤ i-end)
-    × (i-end ≡ length octets₀)
-    × (length octets ≡ length octets₀)
-    × (coderAfter s (drop (2 * i) samples) ≡ coderAfter s₀ samples)
-    × (take i octets ++ octetsOf s (drop (2 * i) samples) ≡ octetsOf s₀ samples)
+Inv-loop samples octets₀ s₀ limited₀ at₀ octets s limited at =
+    (at ≤ length octets₀) × RunSoFar s₀ samples octets₀ s octets limited at
 
 abbrev μ-loop : tie.MeasureT-loop
-μ-loop samples octets₀ s₀ i₀ i-end octets s i = i-end - i
+μ-loop samples octets₀ s₀ limited₀ at₀ octets s limited at = length octets₀ - at
 
 loop-holds : tie.Need-loop-holds Inv-loop μ-loop
-loop-holds c = (zero-le, refl, refl, refl, refl)
+loop-holds c = (zero-le, run-begun _ _ _)
+
+-- where a block ends, which is within the octets, and its samples within theirs
+module _ (l : tie.After-lesser Inv-loop μ-loop) where
+  abbrev at : tie.At-loop Inv-loop μ-loop
+  at = l .before .before
+
+  abbrev start : tie.Start Inv-loop μ-loop
+  start = at .before .before
+
+  abbrev to : ℕ
+  to = at .loop .at + l .lesser .result
+
+  on : at .loop .at ≤ to
+  on = omega arith
+
+  room : to ≤ length (at .loop .octets)
+  room = omega (arith, l .lesser .ensures, at .loop .inv .1 .long)
+
+  within : 2 * to ≤ length (start .args .samples .now)
+  within = omega (arith, room, at .loop .inv .1 .long, start .pre .1)
+
+block-requires : tie.Need-block-requires Inv-loop μ-loop
+block-requires c κs =
+    let l = c .before .before in
+    let octets = mid-len (at l .loop .at) (to l) (at l .loop .octets) (room l) in
+    let samples = mid-len (2 * at l .loop .at) (2 * to l) (start l .args .samples .now) (within l) in
+    (omega (arith, l .lesser .ensures, octets), omega (arith, octets, samples))
+
+add-limited : tie.Need-add-limited Inv-loop μ-loop
+add-limited c =
+    let b = c .before .before .before .before in
+    let l = b .before .before .before in
+    omega (arith, start l .pre, block-count _ _ _ (at l .loop .inv .1) (to l) (on l) (within l) (b .block .ensures .answer))
 
 loop-again : tie.Need-loop-again Inv-loop μ-loop
 loop-again c =
-    let st = c .before in
-    let a1 = st .before .before in
-    let lp = a1 .before .before in
-    let samples = lp .before .before .args .samples .now in
-    let octets = lp .loop .octets in
-    let now = lp .loop .s in
-    let i = lp .loop .i in
-    let v = lp .loop .inv in
-    let sent = st .step .result in
-    let two : 2 * i + 1 < length samples = omega arith in
-    let inside : i < length octets = omega arith in
-    let x = back16 (getD samples (2 * i) (pos 0)) (a1 .step-arg .given) in
-    let y = back16 (getD samples (2 * i + 1) (pos 0)) (st .before .step-arg2 .given) in
-    let e = st .step .ensures ∙ λ j. sentOf now (x j) (y j) in (
-      omega arith,
-      v .1,
-      length-set octets i (sent .octet) ∙ v .2,
-      ap (λ (t : Sent). coderAfter (t .next) (drop (2 * (i + 1)) samples)) e ∙ sym (record-turn now samples i two) ∙ v .3,
-      put-one octets (octetsOf (sent .next) (drop (2 * (i + 1)) samples)) i (sent .octet) inside
-          ∙ ap (λ (t : Sent). take i octets ++ t .octet ∷ octetsOf (t .next) (drop (2 * (i + 1)) samples)) e
-          ∙ ap (λ (l : List ℕ). take i octets ++ l) (sym (octets-turn now samples i two))
-          ∙ v .4,
+    let b = c .before .before .before .before in
+    let l = b .before .before .before in
+    let f = at l .loop .inv .1 in (
+      omega (arith, room l, f .long),
+      block-more _ _ _ f (to l) (on l) (within l) (b .block .ensures .answer) (room l) (b .block .ensures .left),
     )
 
 same-length : tie.Need-same-length Inv-loop μ-loop
-same-length c = c .before .loop .inv .2
+same-length c = c .before .before .loop .inv .1 .long
 
 returns : tie.Need-returns Inv-loop μ-loop
+unfolding coded
 returns c =
-    let lp = c .before in
-    let v = lp .loop .inv in
-    let samples = lp .before .before .args .samples .now in
-    let done : length samples ≤ 2 * lp .loop .i = omega arith in
-    let full : length (lp .loop .octets) ≤ lp .loop .i = omega arith in
+    let l = c .before .before .loop in
+    let s = c .before .before .before .before in
+    let f = l .inv .1 in
+    let done : length (s .args .samples .now) ≤ 2 * l .at = omega (arith, f .long, s .pre) in
+    let next = record-ended _ _ _ f done in
+    let count = count-ended _ _ _ f done in
     record {
-      answer = sym (record-end (lp .loop .s) samples (2 * lp .loop .i) done) ∙ v .3;
-      left = sym (octets-end (lp .loop .s) samples (2 * lp .loop .i) done (lp .loop .octets) (lp .loop .i) full) ∙ v .4;
+      answer = c .done .ensures ∙ λ i. record { number = 0; index = 0; limited = count i; next = next i };
+      left = octets-ended _ _ _ f done (omega (arith, f .long));
     }
 
 pub run-spec : {M : Type 1} → statement M
@@ -77,17 +85,22 @@ run-spec =
     Inv-loop
     μ-loop
     loop-holds
-    (λ c. omega arith)
-    (λ c. omega arith)
-    (λ c. omega arith)
-    (λ c. omega arith)
-    (λ c. omega arith)
-    (λ c. omega arith)
-    (λ c. omega arith)
+    (λ c. omega (arith, c .before .loop .inv .1 .long))
     (λ c κs. tt)
+    (λ c. omega (arith, within c))
+    (λ c. omega (arith, within c))
+    (λ c. omega (arith, within c))
+    (λ c. omega (arith, within c))
     (λ c. omega arith)
     (λ c. omega arith)
+    within
+    (λ c. omega arith)
+    (λ c. omega arith)
+    (λ c. room (c .before))
+    block-requires
+    add-limited
     (λ c. omega arith)
     loop-again
+    (λ c κs. tt)
     same-length
     returns)

@@ -9,7 +9,7 @@ use Rattle.decoder.proofs.block.Tie as tie
 in-turn-requires : tie.Need-in-turn-requires
 in-turn-requires c κs =
     let s = c .before .before .before .before in
-    (length-take-le _ _ (s .pre .0), (length-take-le _ _ (s .pre .0), s .pre .1))
+    (omega (arith, s .pre .0), (length-take-le _ _ (s .pre .0), (length-take-le _ _ (s .pre .0), s .pre .1)))
 
 pub block-spec : {M : Type 1} → statement M
 block-spec =

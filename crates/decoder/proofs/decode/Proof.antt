@@ -7,23 +7,22 @@ use borrow.Author.Tests.{not-true, not-false}
 use Prim.Native.Nat.{ℕ}
 use lib.ListN.{length}
 use Rattle.laws.specs.Outcome.{does}
-use Rattle.facts.specs.Lengths.{twice}
+use Rattle.facts.specs.Lengths.{twice, few}
 use Rattle.g722.specs.Coding.{misfit}
-use Rattle.g722.specs.Decoding.{samplesOf, decoderAfter, notDecoded, decoded}
-use Rattle.g722.specs.declared.Decoder.{Decoder}
+use Rattle.g722.specs.Decoding.{notDecoded, decoded}
 use Rattle.decoder.proofs.Laws.{call-mode, call-misfit, call-broken, call-done}
 use Rattle.decoder.proofs.decode.Statement.{statement}
 use Rattle.decoder.proofs.decode.Tie as tie
 
 returns : tie.Need-returns
 unfolding notDecoded
-returns c = does (call-mode _ _ _ _ (omega arith)) (c .answer .ensures) refl
+returns c = does (call-mode _ _ _ _ (omega arith)) (c .refused .ensures) refl
 
 returns-2 : tie.Need-returns-2
 unfolding notDecoded
 returns-2 c =
     let t = c .before in
-    does (call-misfit _ _ _ _ (omega arith) (sym (t .before .before .before .misfit .ensures) ∙ t .if2 .taken)) (c .answer2 .ensures) refl
+    does (call-misfit _ _ _ _ (omega arith) (sym (t .before .before .before .misfit .ensures) ∙ t .if2 .taken)) (c .refused2 .ensures) refl
 
 -- past the second test
 fits : (e : tie.Else2)
@@ -37,24 +36,22 @@ returns-3 c =
     let t = c .before in
     let broken = sym (t .before .before .before .good-decoder .ensures) ∙ not-true _ (t .if3 .taken) in
     does (call-broken _ _ _ _ (omega arith) (fits (t .before)) broken)
-    (c .answer3 .ensures) refl
+    (c .refused3 .ensures) refl
 
 returns-4 : tie.Need-returns-4
-unfolding decoded
 returns-4 c =
-    let r = c .before .before in
+    let r = c .before in
     let f = r .before .before in
     let e = f .before in
     let args = e .before .before .before .before .before .before .args in
     let told = f .in-force .ensures in
     let good = sym (e .before .before .before .good-decoder .ensures) ∙ not-false _ (e .if3 .left) in
     does (call-done _ _ _ _ (omega arith) (fits (e .before)) good)
-    (c .answer4 .ensures ∙ ap (λ (s : Decoder). record { number = 0; index = 0; next = s })
-    (r .run .ensures .answer ∙ ap (λ (m : ℕ). decoderAfter m (args .d) (args .octets .now)) told))
-    (r .run .ensures .left ∙ ap (λ (m : ℕ). samplesOf m (args .d) (args .octets .now)) told)
+    (r .run .ensures .answer ∙ ap (λ (m : ℕ). decoded m (args .d) (args .octets .now) .answer) told)
+    (r .run .ensures .left ∙ ap (λ (m : ℕ). decoded m (args .d) (args .octets .now) .left) told)
 
 run-requires : tie.Need-run-requires
-run-requires c κs = twice _ _ (fits (c .before .before .before))
+run-requires c κs = let f = fits (c .before .before .before) in (few _ _ f, twice _ _ f)
 
 pub decode-spec : {M : Type 1} → statement M
 decode-spec =
@@ -70,6 +67,5 @@ decode-spec =
     returns-3
     (λ c κs. tt)
     run-requires
-    (λ c κs. tt)
     (λ c. search needs)
     returns-4)

@@ -1,5 +1,5 @@
 -- `host::zelcandry_code` meets its contract: the record's call between reading the state and writing it.
-use mathlib.Core.Path.{_≡_, ap, subst, sym, _∙_}
+use mathlib.Core.Path.{ap, subst, sym, _∙_}
 use mathlib.Core.List.{List}
 use Prim.Native.Nat.{ℕ}
 use native.Mathlib.Omega.{arith}
@@ -23,8 +23,8 @@ held e = coderIn (e .before .before .before .before .before .before .before .arg
 
 did : (e : tie.After-encode-chunk) → Does (meant e (held e)) (e .encode-chunk .result) (e .encode-chunk .last .1 .1 .0)
 did e =
-    subst (λ (r : Coder). Does (meant e r) (e .encode-chunk .result) (e .encode-chunk .last .1 .1 .0)) (e .before .before .read-coder .ensures)
-    (e .encode-chunk .ensures)
+    subst (λ (r : Coder). Does (meant e r) (e .encode-chunk .result) (e .encode-chunk .last .1 .1 .0))
+    (e .before .before .read-coder .ensures) (e .encode-chunk .ensures)
 
 packed-requires : tie.Need-packed-requires
 packed-requires c κs =
@@ -40,8 +40,8 @@ returns c =
     let e = p .before .before .before in
     let a = e .before .before .before .before .before .before .before .args in
     let done = sym (ap (λ (r : Coded). r .number) (did e .answer)) ∙ t .if1 .taken in
-    moves (λ (r : Coded). r .number) (λ (r : Coded). r .index) (λ (r : Coded). coderBytes (r .next)) (a .state .now)
-    (meant e (held e)) (did e) (p .packed .ensures) (t .if1 .taken)
+    moves (λ (r : Coded). r .number) (λ (r : Coded). r .index) (λ (r : Coded). r .limited) (λ (r : Coded). coderBytes (r .next))
+    (a .state .now) (meant e (held e)) (did e) (p .packed .ensures) (t .if1 .taken)
     (coder-held (a .state .now) (a .samples .now) (a .octets .now) done) (c .before .before .write-coder .ensures)
 
 returns-2 : tie.Need-returns-2
@@ -50,8 +50,8 @@ returns-2 c =
     let p = c .before .before in
     let e = p .before .before .before in
     let a = e .before .before .before .before .before .before .before .args in
-    stays (λ (r : Coded). r .number) (λ (r : Coded). r .index) (λ (r : Coded). coderBytes (r .next)) (a .state .now)
-    (meant e (held e)) (did e) (p .packed .ensures) (c .if1 .left)
+    stays (λ (r : Coded). r .number) (λ (r : Coded). r .index) (λ (r : Coded). r .limited) (λ (r : Coded). coderBytes (r .next))
+    (a .state .now) (meant e (held e)) (did e) (p .packed .ensures) (c .if1 .left)
 
 pub zelcandry-code-spec : {M : Type 1} → statement M
 zelcandry-code-spec =

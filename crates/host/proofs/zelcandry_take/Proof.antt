@@ -17,7 +17,7 @@ returns : tie.Need-returns
 unfolding takeBytes afterData
 returns c =
     let did = c .before .before .before .take .ensures in
-    record { answer = c .packed .ensures ∙ ap (λ (m : Moved). packed (m .number) (m .index)) (did .answer); left = did .left }
+    record { answer = c .packed .ensures ∙ ap (λ (m : Moved). packed (m .number) (m .index) 0) (did .answer); left = did .left }
 
 pub zelcandry-take-spec : {M : Type 1} → statement M
 zelcandry-take-spec = tie.close (tie.spec (λ c κs. search needs) packed-requires (λ c. search needs) returns)

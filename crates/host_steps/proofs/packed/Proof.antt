@@ -1,4 +1,4 @@
--- `host_steps::packed` meets its contract: an index of 24 bits has room.
+-- `host_steps::packed` meets its contract: an index of 24 bits and a count of 32 have room.
 use mathlib.Core.Path.{refl}
 use borrow.Author.Needs.{needs}
 use Rattle.host.specs.Answer.{packed}
@@ -10,4 +10,4 @@ unfolding packed
 returns c = refl
 
 pub packed-spec : {M : Type 1} → statement M
-packed-spec = tie.close (tie.spec (λ c. search needs) (λ c. search needs) returns)
+packed-spec = tie.close (tie.spec (λ c. search needs) (λ c. search needs) (λ c. search needs) (λ c. search needs) returns)

@@ -45,8 +45,8 @@ returns c =
     let e = p .before .before .before in
     let a = began e .args in
     let done = sym (ap (λ (r : Decoded). r .number) (did e .answer)) ∙ t .if1 .taken in
-    moves (λ (r : Decoded). r .number) (λ (r : Decoded). r .index) (λ (r : Decoded). decoderBytes (r .next)) (a .state .now)
-    (meant e (held e)) (did e) (p .packed .ensures) (t .if1 .taken)
+    moves (λ (r : Decoded). r .number) (λ (r : Decoded). r .index) (λ (r : Decoded). r .limited) (λ (r : Decoded). decoderBytes (r .next))
+    (a .state .now) (meant e (held e)) (did e) (p .packed .ensures) (t .if1 .taken)
     (join-held (a .state .now) (a .low .now) (a .high .now) (a .samples .now) done) (c .before .before .write-decoder .ensures)
 
 returns-2 : tie.Need-returns-2
@@ -54,8 +54,8 @@ unfolding afterDecoding joinBytes
 returns-2 c =
     let p = c .before .before in
     let e = p .before .before .before in
-    stays (λ (r : Decoded). r .number) (λ (r : Decoded). r .index) (λ (r : Decoded). decoderBytes (r .next)) (began e .args .state .now)
-    (meant e (held e)) (did e) (p .packed .ensures) (c .if1 .left)
+    stays (λ (r : Decoded). r .number) (λ (r : Decoded). r .index) (λ (r : Decoded). r .limited) (λ (r : Decoded). decoderBytes (r .next))
+    (began e .args .state .now) (meant e (held e)) (did e) (p .packed .ensures) (c .if1 .left)
 
 pub zelcandry-join-spec : {M : Type 1} → statement M
 zelcandry-join-spec =

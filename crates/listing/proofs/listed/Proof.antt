@@ -25,7 +25,7 @@ returns-2 c =
     let first = back16 (p .first) (t .before .struct-told .given .1 .1 .1 .1 .1 .1 .1 .0 .1) in
     let last = back16 (p .last) (t .struct-told2 .given .1 .1 .1 .1 .1 .1 .1 .1 .0 .1) in
     rw good
-    (c .block-line .ensures ∙ λ i. lineOf (blockLine (p .take) (p .block) (p .mode) (p .count) (first i) (last i)))
+    (c .block-line .ensures ∙ λ i. lineOf (blockLine (p .take) (p .block) (p .mode) (p .count) (first i) (last i) (p .limited)))
 
 pub listed-spec : {M : Type 1} → statement M
 listed-spec = tie.close (tie.spec

@@ -7,7 +7,7 @@ use lib.ListN.{getD}
 use mir.Syntax.{w32}
 use mir.Val.{SFits, toZ, ofZ}
 use mir.Facts.{toZ-ofZ}
-use Rattle.laws.specs.Back.{back16, got16, got32}
+use Rattle.laws.specs.Back.{back16, got32}
 use Rattle.laws.specs.Size.{fits-abs, shr-fits}
 use Rattle.g722.specs.Tables.{h}
 use Rattle.g722.specs.Mirror.{coefficient, xd, xs, accumc, accumd}
@@ -68,8 +68,8 @@ returns c =
     let f : SFits w32 (toZ w32 (l .first)) = rw (a .is) (fits-abs (omega arith)) in
     let g : SFits w32 (toZ w32 (l .second)) = rw (b .is) (fits-abs (omega arith)) in
     rw (
-      got16 (c .limit2) ∙ c .limit2 .ensures,
-      got16 (c .before .limit) ∙ c .before .limit .ensures,
+      c .limit2 .ensures,
+      c .before .limit .ensures,
       toZ-ofZ (shr-fits 4096 f),
       toZ-ofZ (shr-fits 4096 g),
       a .is,

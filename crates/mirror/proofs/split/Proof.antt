@@ -6,7 +6,7 @@ use lib.Dec.{lit<}
 use mir.Syntax.{w32}
 use mir.Val.{toZ, ofZ}
 use mir.Facts.{toZ-ofZ}
-use Rattle.laws.specs.Back.{back16, got16, got32}
+use Rattle.laws.specs.Back.{back16, got32}
 use Rattle.laws.specs.Size.{shr-fits}
 use Rattle.g722.specs.Tables.{h}
 use Rattle.g722.specs.Mirror.{coefficient, xin, accuma, accumb, lowt, hight}
@@ -79,8 +79,8 @@ returns c =
     let p = plus-fits a b (lit< tt) in
     let m = less-fits a b (lit< tt) in
     rw (
-      got16 (c .limit2) ∙ c .limit2 .ensures,
-      got16 (c .before .limit) ∙ c .before .limit .ensures,
+      c .limit2 .ensures,
+      c .before .limit .ensures,
       toZ-ofZ p,
       toZ-ofZ m,
       toZ-ofZ (shr-fits 8192 p),

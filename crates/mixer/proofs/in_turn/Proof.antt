@@ -5,7 +5,7 @@ use borrow.Author.Needs.{needs}
 use lib.IntN.{ℤ}
 use Rattle.conference.specs.Sums.{mixed}
 use Rattle.conference.specs.Ports.{octetTo, coderTo, eachPort}
-use Rattle.conference.specs.Tick.{signalsTo, octetsTo, deskAfter}
+use Rattle.conference.specs.Tick.{signalsTo, octetsTo, deskAfter, sumsLimited, tickLimited, ticked}
 use Rattle.mixer.proofs.in_turn.Statement.{statement}
 use Rattle.mixer.proofs.in_turn.Tie as tie
 
@@ -15,20 +15,36 @@ hear-all-requires c κs =
     (p .0, (p .1 .0, (p .1 .1 .0, p .1 .1 .1 .0)))
 
 returns : tie.Need-returns
-unfolding deskAfter octetsTo signalsTo
+unfolding ticked tickLimited deskAfter octetsTo signalsTo
 returns c =
-    let s = c .before .before in
+    let s = c .before .before .before .before in
     let h = s .before .before .before .before .before .before in
     let desk = h .before .before .before .before .before .before .before .before .args .desk in
     let heard = h .hear-all .ensures in
+    let sent = s .send-all .ensures in
     let signals = ap (λ (l : List ℤ × List ℤ). zip (mixed (l .0)) (mixed (l .1))) (heard .left) in
-    let coders = s .send-all .ensures .answer ∙ ap (eachPort coderTo (desk .coders)) signals in
+    let coders = (λ j. sent .answer j .coders) ∙ ap (eachPort coderTo (desk .coders)) signals in
+    let count = (λ j. sent .answer j .limited) ∙ ap (λ (l : List ℤ × List ℤ). sumsLimited (l .0) (l .1)) (heard .left) in
     record {
-      answer = λ i. record { ports = desk .ports; coders = coders i; decoders = heard .answer i };
-      left = s .send-all .ensures .left ∙ ap (zipWith octetTo (desk .coders)) signals;
+      answer =
+          c .answer .ensures
+          ∙ λ i. record {
+            number = 0;
+            index = 0;
+            limited = count i;
+            next = record { ports = desk .ports; coders = coders i; decoders = heard .answer i };
+          };
+      left = sent .left ∙ ap (zipWith octetTo (desk .coders)) signals;
     }
 
 pub in-turn-spec : {M : Type 1} → statement M
 in-turn-spec =
     tie.close
-    (tie.spec hear-all-requires (λ c κs. search needs) (λ c. search needs) (λ c. search needs) (λ c. search needs) returns)
+    (tie.spec
+    hear-all-requires
+    (λ c κs. search needs)
+    (λ c κs. tt)
+    (λ c. search needs)
+    (λ c. search needs)
+    (λ c. search needs)
+    returns)

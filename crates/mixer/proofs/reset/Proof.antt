@@ -14,7 +14,13 @@ use Rattle.mixer.proofs.reset.Tie as tie
 -- the answer, by what the three calls give
 answered : (number ports : ℕ) (t : Bool) {c : Coder} {d : Decoder} {u : Bool} {a : Ticked}
     → c ≡ resetCoder → d ≡ resetDecoder → u ≡ unseated ports → u ≡ t → cond t 9 0 ≡ number
-    → a ≡ record { number = number; index = 0; next = record { ports = ports; coders = replicate 8 c; decoders = replicate 8 d } }
+    → a
+    ≡ record {
+      number = number;
+      index = 0;
+      limited = 0;
+      next = record { ports = ports; coders = replicate 8 c; decoders = replicate 8 d };
+    }
     → a ≡ resetCall ports
 unfolding resetCall resetDesk
 answered number ports t c≡ d≡ u≡ t≡ n≡ a≡ =
@@ -24,6 +30,7 @@ answered number ports t c≡ d≡ u≡ t≡ n≡ a≡ =
     record {
       number = n i;
       index = 0;
+      limited = 0;
       next = record { ports = ports; coders = replicate 8 (c≡ i); decoders = replicate 8 (d≡ i) };
     }
 

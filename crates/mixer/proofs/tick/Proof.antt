@@ -1,14 +1,13 @@
 -- `mixer::tick` meets its contract: each way out is a case of the definition.
-use mathlib.Core.Path.{_≡_, refl, sym, ap, _∙_}
+use mathlib.Core.Path.{_≡_, refl, sym, _∙_}
 use mathlib.Core.Bool.{false}
 use native.Mathlib.Omega.{arith}
 use borrow.Author.Needs.{needs}
 use borrow.Author.Tests.{not-true, not-false}
 use lib.ListN.{length}
 use Rattle.laws.specs.Outcome.{does}
-use Rattle.conference.specs.Tick.{unseated, uneven, anyAbove}
+use Rattle.conference.specs.Tick.{unseated, uneven, anyAbove, ticked}
 use Rattle.conference.specs.Cases.{seated, even, tick-9, tick-3, tick-1, tick-2, tick-0}
-use Rattle.conference.specs.declared.Desk.{Desk}
 use Rattle.mixer.proofs.tick.Statement.{statement}
 use Rattle.mixer.proofs.tick.Tie as tie
 
@@ -61,14 +60,14 @@ run-requires c κs =
     (omega arith, (n .0 ∙ sym (n .1), n .2 ∙ sym (n .1)))
 
 returns-5 : tie.Need-returns-5
+unfolding ticked
 returns-5 c =
-    let r = c .before .before .before in
+    let r = c .before .before in
     let f = r .before .before in
     let e = f .before in
     let good = sym (e .before .before .before .good-ports .ensures) ∙ not-false _ (f .if4 .left) in
     does (tick-0 _ _ _ _ (two-to-eight (e .before .before)) (one-each (e .before)) (none-above e) good)
-    (c .answer5 .ensures ∙ ap (λ (d : Desk). record { number = 0; index = 0; next = d }) (r .run .ensures .answer))
-    (r .run .ensures .left)
+    (r .run .ensures .answer) (r .run .ensures .left)
 
 pub tick-spec : {M : Type 1} → statement M
 tick-spec =
@@ -88,6 +87,5 @@ tick-spec =
     (λ c κs. tt)
     returns-4
     run-requires
-    (λ c κs. tt)
     (λ c. search needs)
     returns-5)

@@ -6,7 +6,7 @@ use Rattle.recording.proofs.in_steps.Tie as tie
 
 returns : tie.Need-returns
 returns c =
-    let j = c .before .before in
+    let j = c .before in
     let h = j .before .before .before .before .before .before in
     let s = h .before .before .before .before in
     let fits = s .pre .1 in

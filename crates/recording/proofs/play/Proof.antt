@@ -87,14 +87,15 @@ slice-copy-out-last c =
 
 returns-4 : tie.Need-returns-4
 returns-4 c =
-    let t = c .before .before in
+    let l = c .before in
+    let t = l .before .before in
     let s = t .before .before .before .before .before in
     let f = s .before .before in
     let e = f .before in
     let good = sym (s .before .good-decoder .ensures) ∙ not-false _ (s .if3 .left) in
     let d = t .before .before .before .before .decoder-for .ensures in
     played _ _ (e .before .before .read .ensures) (e .if1 .left) _ _ (roomy f) good d (t .before .heard-and-joined .ensures)
-    (as-reported _ _ _ (back16 _ (c .before .first .given)) (back16 _ (c .last .given)))
+    (as-reported _ _ _ (back16 _ (l .before .first .given)) (back16 _ (l .last .given)))
 
 pub play-spec : {M : Type 1} → statement M
 play-spec =

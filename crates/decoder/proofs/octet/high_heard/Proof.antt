@@ -4,14 +4,14 @@ use Rattle.laws.specs.Back.{back16, got16, got32}
 use Rattle.g722.specs.Octet.{highWord}
 use Rattle.g722.specs.Quantise.{invqah, highFactors}
 use Rattle.g722.specs.Band.{highAfter}
-use Rattle.g722.specs.Decoding.{rhOf}
+use Rattle.g722.specs.Decoding.{yhOf}
 use Rattle.decoder.specs.Step.{highHeard}
 use Rattle.decoder.proofs.Laws.{band-heard}
 use Rattle.decoder.proofs.octet.high_heard.Statement.{statement}
 use Rattle.decoder.proofs.octet.high_heard.Tie as tie
 
 returns : tie.Need-returns
-unfolding highHeard rhOf highAfter
+unfolding highHeard yhOf highAfter
 returns c =
     let l = c .before .before in
     let a = l .before .before in
@@ -26,7 +26,7 @@ returns c =
     (back16 (q .before .estimate .result .s) (a .before .struct-told2 .given .1 .0 .1))
     d
     (got32 (l .before .wide) ∙ l .before .wide .ensures ∙ got16 (a .add) ∙ a .add .ensures)
-    (got16 (l .limit) ∙ l .limit .ensures)
+    (l .limit .ensures)
     d
     (c .before .high-factors .ensures) (c .adapt .ensures)
 

@@ -4,14 +4,14 @@ use Rattle.laws.specs.Back.{back16, got16, got32}
 use Rattle.g722.specs.Octet.{lowWord}
 use Rattle.g722.specs.Quantise.{invqbl, invqal, lowFactors}
 use Rattle.g722.specs.Band.{lowAfter}
-use Rattle.g722.specs.Decoding.{rlOf}
+use Rattle.g722.specs.Decoding.{ylOf}
 use Rattle.decoder.specs.Step.{lowHeard}
 use Rattle.decoder.proofs.Laws.{band-heard}
 use Rattle.decoder.proofs.octet.low_heard.Statement.{statement}
 use Rattle.decoder.proofs.octet.low_heard.Tie as tie
 
 returns : tie.Need-returns
-unfolding lowHeard rlOf lowAfter
+unfolding lowHeard ylOf lowAfter
 returns c =
     let l = c .before .before .before in
     let a = l .before .before in
@@ -25,7 +25,7 @@ returns c =
     (back16 (q .before .estimate .result .s) (a .before .struct-told2 .given .1 .0 .1))
     (got16 (q .invqbl) ∙ q .invqbl .ensures ∙ ap (invqbl (s .args .mode) il) scale)
     (got32 (l .before .wide) ∙ l .before .wide .ensures ∙ got16 (a .add) ∙ a .add .ensures)
-    (got16 (l .limit) ∙ l .limit .ensures)
+    (l .limit .ensures)
     (got16 (c .before .before .invqal) ∙ c .before .before .invqal .ensures ∙ ap (invqal il) scale)
     (c .before .low-factors .ensures) (c .adapt .ensures)
 

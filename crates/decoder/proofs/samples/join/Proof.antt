@@ -7,12 +7,11 @@ use Prim.Native.Nat.{ℕ, min}
 use lib.Dec.{eqb}
 use lib.ListN.{length}
 use Rattle.laws.specs.Outcome.{does}
-use Rattle.facts.specs.Lengths.{matched}
+use Rattle.facts.specs.Lengths.{matched, few-pairs}
 use Rattle.facts.specs.Range.{none-bad-pair, some-bad-pair}
 use Rattle.g722.specs.Records.{allInRange, goodDecoder}
 use Rattle.g722.specs.Coding.{misfit}
-use Rattle.g722.specs.Steps.{firstBadPair}
-use Rattle.g722.specs.declared.Decoder.{Decoder}
+use Rattle.g722.specs.Steps.{firstBadPair, joined}
 use Rattle.g722.specs.InSteps.{join-3, join-2, join-4, join-0}
 use Rattle.decoder.proofs.samples.join.Statement.{statement}
 use Rattle.decoder.proofs.samples.join.Tie as tie
@@ -21,14 +20,14 @@ returns : tie.Need-returns
 returns c =
     let t = c .before in
     let unfit = sym (t .before .before .misfit .ensures) ∙ t .if1 .taken in
-    does (join-3 _ _ _ _ (rw unfit refl)) (c .answer .ensures) refl
+    does (join-3 _ _ _ _ (rw unfit refl)) (c .refused .ensures) refl
 
 returns-2 : tie.Need-returns-2
 returns-2 c =
     let t = c .before in
     let e = t .before in
     let fit = sym (e .before .before .misfit .ensures) ∙ e .if1 .left in
-    does (join-3 _ _ _ _ (rw (fit, ne-eqb _ _ (t .if2 .taken)) refl)) (c .answer2 .ensures) refl
+    does (join-3 _ _ _ _ (rw (fit, ne-eqb _ _ (t .if2 .taken)) refl)) (c .refused2 .ensures) refl
 
 -- past the second test
 fits : (e : tie.Else2)
@@ -43,7 +42,7 @@ returns-3 : tie.Need-returns-3
 returns-3 c =
     let t = c .before in
     let broken = sym (t .before .before .before .good-decoder .ensures) ∙ not-true _ (t .if3 .taken) in
-    does (join-2 _ _ _ _ (fits (t .before)) broken) (c .answer3 .ensures) refl
+    does (join-2 _ _ _ _ (fits (t .before)) broken) (c .refused3 .ensures) refl
 
 -- past the third
 module _ (b : tie.After-both) where
@@ -71,20 +70,22 @@ returns-4 c =
     let bad = some-bad-pair _ _ (even b) (sym (looked b) ∙ not-true _ (t .if4 .taken)) in
     let index = l .lesser .ensures ∙ λ i. min (f .before .first-bad .ensures i) (f .first-bad2 .ensures i) in
     does (join-4 _ _ _ _ (fits (e b .before)) (good b) (lt-ltb _ _ bad))
-    (c .answer4 .ensures ∙ ap (λ (n : ℕ). record { number = 4; index = n; next = args .d }) index) refl
+    (c .refused4 .ensures ∙ ap (λ (n : ℕ). record { number = 4; index = n; limited = 0; next = args .d }) index) refl
 
 returns-5 : tie.Need-returns-5
+unfolding joined
 returns-5 c =
-    let r = c .before .before in
+    let r = c .before in
     let n = r .before .before in
     let b = n .before in
     let clean = none-bad-pair _ _ (even b) (sym (looked b) ∙ not-false _ (n .if4 .left)) in
     does (join-0 _ _ _ _ (fits (e b .before)) (good b) (le-ltb _ _ clean))
-    (c .answer5 .ensures ∙ ap (λ (s : Decoder). record { number = 0; index = 0; next = s }) (r .join-all .ensures .answer))
-    (r .join-all .ensures .left)
+    (r .join-all .ensures .answer) (r .join-all .ensures .left)
 
 join-all-requires : tie.Need-join-all-requires
-join-all-requires c κs = matched _ _ _ (fits (e (c .before .before) .before))
+join-all-requires c κs =
+    let f = fits (e (c .before .before) .before) in
+    (few-pairs _ _ _ f, matched _ _ _ f)
 
 pub join-spec : {M : Type 1} → statement M
 join-spec =
@@ -107,6 +108,5 @@ join-spec =
     (λ c κs. tt)
     returns-4
     join-all-requires
-    (λ c κs. tt)
     (λ c. search needs)
     returns-5)

@@ -7,9 +7,8 @@ use borrow.Author.Tests.{not-true, not-false, lt-ltb, le-ltb}
 use Prim.Native.Nat.{ℕ}
 use lib.ListN.{length}
 use Rattle.laws.specs.Outcome.{does}
-use Rattle.facts.specs.Lengths.{paired}
-use Rattle.g722.specs.Steps.{rlsOf, rhsOf, unpaired}
-use Rattle.g722.specs.declared.Decoder.{Decoder}
+use Rattle.facts.specs.Lengths.{paired, few-octets}
+use Rattle.g722.specs.Steps.{unpaired, heard}
 use Rattle.g722.specs.InSteps.{hear-1, hear-3, hear-2, hear-0}
 use Rattle.decoder.proofs.signals.hear.Statement.{statement}
 use Rattle.decoder.proofs.signals.hear.Tie as tie
@@ -17,14 +16,14 @@ use Rattle.decoder.proofs.signals.hear.Tie as tie
 returns : tie.Need-returns
 returns c =
     let told = c .before .before .before .before .before .args .told in
-    does (hear-1 _ _ _ _ _ (lt-ltb 3 told (omega arith))) (c .answer .ensures) refl
+    does (hear-1 _ _ _ _ _ (lt-ltb 3 told (omega arith))) (c .refused .ensures) refl
 
 returns-2 : tie.Need-returns-2
 returns-2 c =
     let t = c .before in
     let told = t .before .before .before .before .before .args .told in
     does (hear-3 _ _ _ _ _ (le-ltb 3 told (omega arith)) (sym (t .before .before .before .unpaired .ensures) ∙ t .if2 .taken))
-    (c .answer2 .ensures) refl
+    (c .refused2 .ensures) refl
 
 -- past the second test
 fits : (e : tie.Else2)
@@ -38,11 +37,12 @@ returns-3 c =
     let broken = sym (t .before .before .before .good-decoder .ensures) ∙ not-true _ (t .if3 .taken) in
     let told = t .before .before .before .before .before .before .args .told in
     does (hear-2 _ _ _ _ _ (le-ltb 3 told (omega arith)) (fits (t .before)) broken)
-    (c .answer3 .ensures) refl
+    (c .refused3 .ensures) refl
 
 returns-4 : tie.Need-returns-4
+unfolding heard
 returns-4 c =
-    let r = c .before .before .before in
+    let r = c .before .before in
     let f = r .before .before .before in
     let e = f .before in
     let args = e .before .before .before .before .before .before .args in
@@ -50,11 +50,13 @@ returns-4 c =
     let told = f .in-force .ensures in
     let good = sym (e .before .before .before .good-decoder .ensures) ∙ not-false _ (e .if3 .left) in
     does (hear-0 _ _ _ _ _ (le-ltb 3 (args .told) (omega arith)) (fits (e .before)) good)
-    (c .answer4 .ensures ∙ ap (λ (s : Decoder). record { number = 0; index = 0; next = s }) (r .hear-all .ensures .answer))
-    (r .hear-all .ensures .left ∙ ap (λ (m : ℕ). (rlsOf m (args .d .low) octets, rhsOf (args .d .high) octets)) told)
+    (r .hear-all .ensures .answer ∙ ap (λ (m : ℕ). heard m (args .d) octets .answer) told)
+    (r .hear-all .ensures .left ∙ ap (λ (m : ℕ). heard m (args .d) octets .left) told)
 
 hear-all-requires : tie.Need-hear-all-requires
-hear-all-requires c κs = paired _ _ _ (fits (c .before .before .before .before))
+hear-all-requires c κs =
+    let f = fits (c .before .before .before .before) in
+    (few-octets _ _ _ f, paired _ _ _ f)
 
 pub hear-spec : {M : Type 1} → statement M
 hear-spec =
@@ -70,7 +72,6 @@ hear-spec =
     returns-3
     (λ c κs. tt)
     hear-all-requires
-    (λ c κs. tt)
     (λ c. search needs)
     (λ c. search needs)
     returns-4)

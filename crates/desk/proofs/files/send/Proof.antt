@@ -10,7 +10,7 @@ slice-aggregate-mix : tie.Need-slice-aggregate-mix
 slice-aggregate-mix c = sym (length-take-le _ _ (omega arith))
 
 mix-requires : tie.Need-mix-requires
-mix-requires c κs = (omega arith, length-take-le _ _ (omega arith))
+mix-requires c κs = (omega arith, (omega arith, length-take-le _ _ (omega arith)))
 
 pub send-spec : {M : Type 1} → statement M
 send-spec =
@@ -19,6 +19,7 @@ send-spec =
     (λ c. search needs)
     slice-aggregate-mix
     mix-requires
+    (λ c κs. search needs)
     (λ c κs. search needs)
     (λ c κs. search needs)
     (λ c. search needs))

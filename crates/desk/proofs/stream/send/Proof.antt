@@ -21,7 +21,8 @@ mix-requires c κs =
     let s = c .before .before .before .before in
     let octets = s .args .octets .now in
     let n = length octets - length octets % length (s .args .modes .now) in
-    (omega arith, same-part n (replicate 8000 0) octets (omega arith) (omega arith))
+    let part = same-part n (replicate 8000 0) octets (omega arith) (omega arith) in
+    (omega arith, (omega (arith, length-take-le n octets (omega arith), s .pre .1), part))
 
 array-share-prefix-room : tie.Need-array-share-prefix-room
 array-share-prefix-room c =
@@ -43,6 +44,7 @@ send-spec =
     mix-requires
     array-share-prefix-room
     slice-aggregate-sent
+    (λ c κs. search needs)
     (λ c κs. search needs)
     (λ c κs. search needs)
     (λ c. search needs))

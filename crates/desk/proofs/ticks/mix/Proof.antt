@@ -1,6 +1,6 @@
 -- `desk::ticks::mix` is safe and ends: each tick has its place in the room.
 use mathlib.Core.Path.{_≡_, refl, _∙_}
-use Prim.Native.Nat.{ℕ, _+_, _-_, _≤_, zero-le}
+use Prim.Native.Nat.{ℕ, _+_, _-_, _*_, _^_, _≤_, zero-le}
 use native.Mathlib.Omega.{arith}
 use lib.ListN.{length}
 use borrow.Rule.Slice.PartMut.{putMid, same-len-mid}
@@ -8,10 +8,11 @@ use Rattle.desk.proofs.ticks.mix.Statement.{statement}
 use Rattle.desk.proofs.ticks.mix.Tie as tie
 
 abbrev Inv-loop : tie.InvT-loop
-Inv-loop modes octets room₀ n d₀ at₀ room d at = (at ≤ length octets) × (length room ≡ length room₀)
+Inv-loop modes octets room₀ n d₀ limited₀ at₀ room d limited at =
+    (at ≤ length octets) × (length room ≡ length room₀) × (limited ≤ 2 ^ 32 * at)
 
 abbrev μ-loop : tie.MeasureT-loop
-μ-loop modes octets room₀ n d₀ at₀ room d at = length octets - at
+μ-loop modes octets room₀ n d₀ limited₀ at₀ room d limited at = length octets - at
 
 -- the room is as long as before when a tick is written to it
 module _ (t : tie.After-tick Inv-loop μ-loop) where
@@ -30,10 +31,12 @@ module _ (t : tie.After-tick Inv-loop μ-loop) where
       ∙ lp .loop .inv .1
 
 same-length : tie.Need-same-length Inv-loop μ-loop
-same-length c = same-room (c .before .before .before .before .before .before .before)
+same-length c = same-room (c .before .before .before .before .before .before)
 
 loop-again : tie.Need-loop-again Inv-loop μ-loop
-loop-again c = (omega arith, same-room (c .before .before .before .before .before))
+loop-again c =
+    let t = c .before .before .before .before .before .before in
+    (omega arith, same-room t, omega (arith, lp t .loop .inv .2, start t .pre .0))
 
 pub mix-spec : {M : Type 1} → statement M
 mix-spec =
@@ -41,7 +44,7 @@ mix-spec =
     (tie.spec
     Inv-loop
     μ-loop
-    (λ c. (zero-le, refl))
+    (λ c. (zero-le, refl, zero-le))
     (λ c. omega arith)
     (λ c. omega arith)
     (λ c. omega arith)
@@ -51,11 +54,12 @@ mix-spec =
     (λ c. omega arith)
     (λ c. omega arith)
     (λ c. omega arith)
-    (λ c κs. tt)
     (λ c κs. tt)
     (λ c κs. tt)
     same-length
     (λ c. tt)
+    (λ c. let t = c .before .before .before .before .before .before in omega (arith, lp t .loop .inv .2, start t .pre .1 .0))
+    (λ c. omega arith)
     (λ c. omega arith)
     (λ c. omega arith)
     loop-again

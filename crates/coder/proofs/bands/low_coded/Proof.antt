@@ -6,8 +6,8 @@ use Rattle.g722.specs.Band.{lowAfter}
 use Rattle.g722.specs.Quantise.{quantl, invqal, lowFactors}
 use Rattle.coder.specs.Step.{lowCoded}
 use Rattle.coder.proofs.Laws.{band-coded}
-use Rattle.coder.proofs.pair.low_coded.Statement.{statement}
-use Rattle.coder.proofs.pair.low_coded.Tie as tie
+use Rattle.coder.proofs.bands.low_coded.Statement.{statement}
+use Rattle.coder.proofs.bands.low_coded.Tie as tie
 
 returns : tie.Need-returns
 unfolding lowCoded lowAfter

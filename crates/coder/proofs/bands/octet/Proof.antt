@@ -2,8 +2,8 @@
 use borrow.Author.Needs.{needs}
 use mathlib.Core.Path.{refl}
 use Rattle.g722.specs.Octet.{octet}
-use Rattle.coder.proofs.pair.octet.Statement.{statement}
-use Rattle.coder.proofs.pair.octet.Tie as tie
+use Rattle.coder.proofs.bands.octet.Statement.{statement}
+use Rattle.coder.proofs.bands.octet.Tie as tie
 
 returns : tie.Need-returns
 unfolding octet

@@ -4,8 +4,8 @@ use mir.Facts.{toZ-ofZ}
 use Rattle.facts.specs.Sent.{quantl-small, quanth-small}
 use Rattle.coder.specs.Step.{lowCoded, highCoded}
 use Rattle.coder.proofs.Laws.{signals-coded}
-use Rattle.coder.proofs.pair.bands_coded.Statement.{statement}
-use Rattle.coder.proofs.pair.bands_coded.Tie as tie
+use Rattle.coder.proofs.bands.bands_coded.Statement.{statement}
+use Rattle.coder.proofs.bands.bands_coded.Tie as tie
 
 octet-requires : tie.Need-octet-requires
 unfolding lowCoded highCoded

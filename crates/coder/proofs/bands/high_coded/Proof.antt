@@ -6,8 +6,8 @@ use Rattle.g722.specs.Band.{highAfter}
 use Rattle.g722.specs.Quantise.{quanth, invqah, highFactors}
 use Rattle.coder.specs.Step.{highCoded}
 use Rattle.coder.proofs.Laws.{band-coded}
-use Rattle.coder.proofs.pair.high_coded.Statement.{statement}
-use Rattle.coder.proofs.pair.high_coded.Tie as tie
+use Rattle.coder.proofs.bands.high_coded.Statement.{statement}
+use Rattle.coder.proofs.bands.high_coded.Tie as tie
 
 returns : tie.Need-returns
 unfolding highCoded highAfter

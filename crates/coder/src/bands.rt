@@ -1,19 +1,17 @@
-// One pair of samples through the transmit filter and both bands.
+// The two sub-band coders: a signal of each band to an octet.
 ghost use mathlib.Core.Path.{_≡_};
 ghost use Prim.Native.Nat.{_<_};
+ghost use lib.ListN.{length};
+ghost use Rattle.laws.specs.Outcome.{Does};
 ghost use Rattle.g722.specs.Octet.{octet};
-ghost use Rattle.coder.specs.Step.{lowCoded, highCoded, bandsCoded, sentOf};
+ghost use Rattle.coder.specs.Step.{lowCoded, highCoded, bandsCoded, bandsRun};
 use crate::Banded;
-use crate::Sent;
+use crate::BothBands;
 use crate::Word;
 use arith::sub;
 use band::adapt;
 use band::estimate;
 use g722::Band;
-use g722::Coder;
-use mirror::kept;
-use mirror::split;
-use mirror::window;
 use quant::high_factors;
 use quant::invqah;
 use quant::invqal;
@@ -72,24 +70,25 @@ pub fn bands_coded(low: Band, high: Band, xl: i16, xh: i16) -> Banded
     }
 }
 
-// One pair, x before y.
-pub(crate) fn step(c: Coder, x: i16, y: i16) -> Sent
-    ensures { λ r. ⌜ r ≡ sentOf c x y ⌝ }
+// Both bands over a run of signals.
+pub(crate) fn bands_all(
+    low: Band,
+    high: Band,
+    xl: &[i16],
+    xh: &[i16],
+    octets: &mut [u8],
+) -> BothBands
+    requires { ⌜ length (now xl) ≡ length (now octets) ⌝ }
+    requires { ⌜ length (now xh) ≡ length (now octets) ⌝ }
+    ensures { λ r. ⌜ Does (bandsRun low high (now (xl .entry)) (now (xh .entry))) r (now (octets .exit)) ⌝ }
 {
-    let past = c.past;
-    let low = c.low;
-    let high = c.high;
-    let w = window(past, x, y);
-    let signals = split(&w);
-    let b = bands_coded(low, high, signals.xl, signals.xh);
-    let low_next = b.low;
-    let high_next = b.high;
-    Sent {
-        octet: b.octet,
-        next: Coder {
-            low: low_next,
-            high: high_next,
-            past: kept(w),
-        },
+    let mut l = low;
+    let mut h = high;
+    for i in 0..octets.len() {
+        let b = bands_coded(l, h, xl[i], xh[i]);
+        octets[i] = b.octet;
+        l = b.low;
+        h = b.high;
     }
+    BothBands { low: l, high: h }
 }
