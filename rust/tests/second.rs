@@ -1,58 +1,14 @@
 //! The calls against the second codec: octets, samples, signals, data, counts of what was limited,
-//! refusals, and what of the states both have, over streams cut in many ways with refused calls among
-//! the others. Each kind of count is met above 0, and as 0 too.
+//! refusals and states, over streams cut in many ways with refused calls among the others. Each kind of
+//! count is met above 0, and as 0 too.
 
 mod common;
 
-use common::{bytes, cuts, dice, of_octets, of_samples, samples};
+use common::beside::{coded, heard, joined, signals, told, Met};
+use common::{bytes, cuts, dice, of_octets, of_samples};
 use second::cue::{put_in, take_out};
 use second::{Coder, Decoder, Wrong};
-use zelcandry::{c, code, decode, hear, join, put, take, Refusal, CODER_RESET, DECODER_RESET};
-
-/// The second codec's answer in our words.
-fn told<T>(answer: Result<T, second::Refusal>) -> Result<T, Refusal> {
-    answer.map_err(|r| Refusal { number: r.number, index: r.index })
-}
-
-/// How many calls limited something, and how many nothing.
-#[derive(Default)]
-struct Met(usize, usize);
-
-impl Met {
-    /// Takes note of a call that was done.
-    fn note(&mut self, limited: usize) {
-        if limited > 0 {
-            self.0 += 1;
-        } else {
-            self.1 += 1;
-        }
-    }
-
-    /// Holds that there were more than a few of both.
-    fn both(&self) {
-        assert!(self.0 > 20 && self.1 > 20, "{} calls limited, {} did not", self.0, self.1);
-    }
-}
-
-/// Coefficients and factors of both bands stand in the state where its layout says.
-fn same_bands(state: &[u8], bands: [&second::band::Band; 2]) {
-    for (band, values) in bands.into_iter().zip(samples(&state[1..81]).chunks(20)) {
-        let newest_first: Vec<i32> = values[..6].iter().rev().map(|x| i32::from(*x)).collect();
-        assert_eq!(newest_first, band.b);
-        assert_eq!([values[12], values[13]].map(i32::from), band.a);
-        assert_eq!([values[18], values[19]].map(i32::from), [band.log_factor, band.scale]);
-    }
-}
-
-/// One coding call of both, and the octets that they leave. Their count is the same.
-fn coded(state: &mut [u8], other: &mut Coder, given: &[i16], n: usize) -> Result<usize, Refusal> {
-    let mut lent = dice(n as u64, n);
-    let mut theirs = lent.clone();
-    let answer = code(state, &bytes(given), &mut lent);
-    assert_eq!(answer, told(other.encode(given, &mut theirs)));
-    assert_eq!(lent, theirs);
-    answer
-}
+use zelcandry::{c, decode, join, put, take, CODER_RESET, DECODER_RESET};
 
 #[test]
 fn coding() {
@@ -75,29 +31,12 @@ fn coding() {
                 coded(&mut state, &mut other, given, n + 1).unwrap_err();
                 assert_eq!(state, before, "{kind:?} {seed} {at}: a refused call changed the state");
                 met.note(coded(&mut state, &mut other, given, n).unwrap());
-                same_bands(&state, other.bands());
                 let past = &stream[at.saturating_sub(22)..at];
                 assert_eq!(state[125 - 2 * past.len()..], bytes(past), "{kind:?} {seed} {at}");
             }
         }
     }
     met.both();
-}
-
-/// One decoding call of both, and the samples that they leave. Their count is the same.
-fn heard(
-    state: &mut [u8],
-    other: &mut Decoder,
-    mode: u8,
-    given: &[u8],
-    n: usize,
-) -> Result<usize, Refusal> {
-    let mut lent = dice(n as u64, 2 * n);
-    let mut theirs = samples(&lent);
-    let answer = decode(state, mode, given, &mut lent);
-    assert_eq!(answer, told(other.decode(mode, given, &mut theirs)));
-    assert_eq!(lent, bytes(&theirs));
-    answer
 }
 
 #[test]
@@ -116,7 +55,6 @@ fn decoding() {
                 heard(&mut state, &mut other, roll % 4, given, 2 * n + 1).unwrap_err();
                 assert_eq!(state, before, "{kind:?} {seed} {at}: a refused call changed the state");
                 met.note(heard(&mut state, &mut other, roll % 4, given, 2 * n).unwrap());
-                same_bands(&state, other.bands());
                 for octet in given {
                     let pair = signals.sub_bands(*octet, (roll % 4).max(1));
                     rl.push(pair.0 as i16);
@@ -129,43 +67,6 @@ fn decoding() {
         }
     }
     met.both();
-}
-
-/// One call of the first step of both, and the signals that they leave, with the count of both.
-fn signals(
-    state: &mut [u8],
-    other: &mut Decoder,
-    mode: u8,
-    given: &[u8],
-    n: [usize; 2],
-) -> Result<([Vec<i16>; 2], usize), Refusal> {
-    let mut lent = n.map(|n| dice(n as u64, 2 * n));
-    let mut theirs = lent.clone().map(|bytes| samples(&bytes));
-    let before = state[81..].to_vec();
-    let ([low, high], [their_low, their_high]) = (&mut lent, &mut theirs);
-    let answer = hear(state, mode, given, low, high);
-    assert_eq!(answer, told(other.hear(mode, given, their_low, their_high)));
-    assert_eq!(lent, theirs.clone().map(|signals| bytes(&signals)));
-    assert_eq!(state[81..], before, "hearing moved the past pairs");
-    answer.map(|limited| (theirs, limited))
-}
-
-/// One call of the second step of both, and the samples that they leave, with the count of both.
-fn joined(
-    state: &mut [u8],
-    other: &mut Decoder,
-    low: &[i16],
-    high: &[i16],
-    n: usize,
-) -> Result<(Vec<i16>, usize), Refusal> {
-    let mut lent = dice(n as u64, 2 * n);
-    let mut theirs = samples(&lent);
-    let before = state[..81].to_vec();
-    let answer = join(state, &bytes(low), &bytes(high), &mut lent);
-    assert_eq!(answer, told(other.join(low, high, &mut theirs)));
-    assert_eq!(lent, bytes(&theirs));
-    assert_eq!(state[..81], before, "joining moved a band");
-    answer.map(|limited| (theirs, limited))
 }
 
 /// A stream of octets in calls, each with a roll of the dice.
@@ -196,7 +97,6 @@ fn all_signals(
         assert_eq!(*state, before, "a refused call changed the state");
         let (got, limited) = signals(state, other, roll % 4, given, [n; 2]).unwrap();
         met.note(limited);
-        same_bands(state, other.bands());
         all.iter_mut().zip(got).for_each(|(all, got)| all.extend(got));
     }
     all
@@ -250,7 +150,6 @@ fn steps() {
                 pairs[1].rotate_left(5);
             }
             all_samples(&mut state, &mut other, &pairs, seed + 9, &mut met_joining);
-            same_bands(&state, other.bands());
             let past = [&pairs[0], &pairs[1]].map(|x| x[x.len() - 11..].to_vec()).concat();
             assert_eq!(state[81..], bytes(&past), "{kind:?} {seed}: the past pairs");
         }

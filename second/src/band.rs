@@ -2,6 +2,7 @@
 
 use crate::arith::{add, limit, mul, sign, stop, sub};
 use crate::history::History;
+use crate::record::BandRecord;
 use crate::Wrong;
 
 /// What the predictor says before the present difference is known.
@@ -11,6 +12,12 @@ pub struct Prediction {
     pub sz: i32,
     /// SL or SH, the whole prediction.
     pub s: i32,
+}
+
+/// The same values in the contrary order.
+fn turned<const N: usize>(mut values: [i32; N]) -> [i32; N] {
+    values.reverse();
+    values
 }
 
 /// One band's signals since reset, its coefficients and its factors.
@@ -45,6 +52,33 @@ impl Band {
             a: [0; 2],
             log_factor: 0,
             scale,
+        }
+    }
+
+    /// A band as a record has it.
+    pub fn from_record(record: &BandRecord, wrong: Wrong) -> Band {
+        Band {
+            wrong,
+            differences: History::ending(&turned(record.d)),
+            reconstructed: History::ending(&turned(record.r)),
+            partial: History::ending(&turned(record.p)),
+            b: record.b,
+            a: record.a,
+            log_factor: record.log_factor,
+            scale: record.scale,
+        }
+    }
+
+    /// What has to be remembered of it.
+    pub fn record(&self) -> BandRecord {
+        BandRecord {
+            b: self.b,
+            d: turned(self.differences.last()),
+            a: self.a,
+            r: turned(self.reconstructed.last()),
+            p: turned(self.partial.last()),
+            log_factor: self.log_factor,
+            scale: self.scale,
         }
     }
 

@@ -5,7 +5,7 @@ use crate::band::Band;
 use crate::filters::Transmit;
 use crate::lamp::{Before, Lamp};
 use crate::quantiser::{invqah, invqal, logsch, logscl, quanth, quantl, scaleh, scalel};
-use crate::{refused, Refusal, Wrong, MOST_OCTETS};
+use crate::{refused, Record, Refusal, Wrong, MOST_OCTETS};
 
 /// A coder and everything it has been given since reset.
 #[derive(Clone, Debug)]
@@ -22,6 +22,22 @@ impl Coder {
     pub fn new(wrong: Wrong) -> Coder {
         let (transmit, lamp) = (Transmit::reset(wrong), Lamp::dark(wrong));
         Coder { wrong, transmit, low: Band::reset(32, wrong), high: Band::reset(8, wrong), lamp }
+    }
+
+    /// A coder as a record has it.
+    pub fn from_record(record: &Record, wrong: Wrong) -> Coder {
+        Coder {
+            transmit: Transmit::after(record.past, wrong),
+            low: Band::from_record(&record.low, wrong),
+            high: Band::from_record(&record.high, wrong),
+            ..Coder::new(wrong)
+        }
+    }
+
+    /// What has to be remembered of it.
+    pub fn record(&self) -> Record {
+        let past = self.transmit.past();
+        Record { low: self.low.record(), high: self.high.record(), past }
     }
 
     /// The low and the high band.

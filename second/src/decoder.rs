@@ -6,7 +6,7 @@ use crate::band::Band;
 use crate::filters::Receive;
 use crate::lamp::{Before, Lamp};
 use crate::quantiser::{invqah, invqal, invqbl, logsch, logscl, scaleh, scalel};
-use crate::{mode_in_force, refused, Refusal, Wrong, MOST_OCTETS};
+use crate::{mode_in_force, refused, Record, Refusal, Wrong, MOST_OCTETS};
 
 /// A signal as it is heard, RL or RH, and beside it YL or YH, before LIMIT.
 #[derive(Clone, Copy, Debug, PartialEq, Eq)]
@@ -33,6 +33,22 @@ impl Decoder {
         let (receive, lamp) = (Receive::reset(wrong), Lamp::dark(wrong));
         let (low, high) = (Band::reset(32, wrong), Band::reset(8, wrong));
         Decoder { wrong, receive, low, high, lamp, last_mode: 1 }
+    }
+
+    /// A decoder as a record has it.
+    pub fn from_record(record: &Record, wrong: Wrong) -> Decoder {
+        Decoder {
+            receive: Receive::after(record.past, wrong),
+            low: Band::from_record(&record.low, wrong),
+            high: Band::from_record(&record.high, wrong),
+            ..Decoder::new(wrong)
+        }
+    }
+
+    /// What has to be remembered of it.
+    pub fn record(&self) -> Record {
+        let past = self.receive.past();
+        Record { low: self.low.record(), high: self.high.record(), past }
     }
 
     /// The decoder of the next take: one at reset (only a wrong one keeps its

@@ -19,6 +19,16 @@ impl Transmit {
         Transmit { wrong, samples: History::default() }
     }
 
+    /// A transmit filter that was given these samples last, oldest first.
+    pub fn after(samples: [i32; 22], wrong: Wrong) -> Transmit {
+        Transmit { wrong, samples: History::ending(&samples) }
+    }
+
+    /// The samples that it was given last, oldest first.
+    pub fn past(&self) -> [i32; 22] {
+        self.samples.last()
+    }
+
     /// The sum of every second coefficient from `first` on, times the sample
     /// as many places before instant `j` as the coefficient's index says.
     fn accumulate(&self, first: usize, j: usize) -> i32 {
@@ -64,6 +74,19 @@ impl Receive {
     /// A receive filter at reset.
     pub fn reset(wrong: Wrong) -> Receive {
         Receive { wrong, low: History::default(), high: History::default() }
+    }
+
+    /// A receive filter that was given these RL and then these RH last, oldest
+    /// first.
+    pub fn after(signals: [i32; 22], wrong: Wrong) -> Receive {
+        let (low, high) = signals.split_at(11);
+        Receive { wrong, low: History::ending(low), high: History::ending(high) }
+    }
+
+    /// RL and then RH of the pairs that it was given last, oldest first.
+    pub fn past(&self) -> [i32; 22] {
+        let (low, high): ([i32; 11], [i32; 11]) = (self.low.last(), self.high.last());
+        std::array::from_fn(|place| if place < 11 { low[place] } else { high[place - 11] })
     }
 
     /// Makes all past pairs 0 (only a wrong decoder does this).

@@ -15,6 +15,19 @@ pub struct History {
 }
 
 impl History {
+    /// A signal of which only the last values are known, oldest first. The
+    /// others within reach are 0.
+    pub fn ending(last: &[i32]) -> History {
+        let mut kept = vec![0; REACH - last.len()];
+        kept.extend(last);
+        History { dropped: 0, kept }
+    }
+
+    /// The last values, oldest first.
+    pub fn last<const N: usize>(&self) -> [i32; N] {
+        std::array::from_fn(|place| self.before(self.len(), N - place))
+    }
+
     /// The number of values since reset, which is the index of the next one.
     pub fn len(&self) -> usize {
         self.dropped + self.kept.len()

@@ -14,12 +14,14 @@ pub mod compare;
 pub mod cue;
 pub mod decoder;
 pub mod desk;
+pub mod extremes;
 pub mod filters;
 pub mod history;
 pub mod lamp;
 pub mod listing;
 pub mod material;
 pub mod quantiser;
+pub mod record;
 pub mod sequences;
 pub mod tables;
 pub mod wrong;
@@ -27,6 +29,7 @@ pub mod wrong;
 pub use coder::Coder;
 pub use decoder::Decoder;
 pub use desk::Desk;
+pub use record::Record;
 pub use wrong::Wrong;
 
 /// The most octets that one call may cover.

@@ -69,11 +69,16 @@ pub enum Stream {
 }
 
 /// A source of numbers that look random, fixed by its seed.
-struct Chance(u64);
+pub(crate) struct Chance(u64);
 
 impl Chance {
+    /// The source of a seed.
+    pub(crate) fn of(seed: u64) -> Chance {
+        Chance(seed)
+    }
+
     /// The next 64 bits (the generator known as splitmix64).
-    fn next(&mut self) -> u64 {
+    pub(crate) fn next(&mut self) -> u64 {
         self.0 = self.0.wrapping_add(0x9e37_79b9_7f4a_7c15);
         let mut z = self.0;
         z = (z ^ z >> 30).wrapping_mul(0xbf58_476d_1ce4_e5b9);
@@ -82,12 +87,12 @@ impl Chance {
     }
 
     /// A number from `low` to `high`, both included.
-    fn between(&mut self, low: i64, high: i64) -> i64 {
+    pub(crate) fn between(&mut self, low: i64, high: i64) -> i64 {
         low + (self.next() >> 1) as i64 % (high - low + 1)
     }
 
     /// One of the choices.
-    fn pick<T: Copy>(&mut self, choices: &[T]) -> T {
+    pub(crate) fn pick<T: Copy>(&mut self, choices: &[T]) -> T {
         choices[self.between(0, choices.len() as i64 - 1) as usize]
     }
 }

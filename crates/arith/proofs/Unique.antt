@@ -21,6 +21,9 @@ mul = equation (λ κs a l m. refl) (λ M. arith.mul.Met.met)
 pub limit : LeavesOne arith.limit.ended (λ M. arith.limit.clauses) arith.limit.Symbol.routine
 limit = equation (λ κs a l m. refl) (λ M. arith.limit.Met.met)
 
+pub one : LeavesOne arith.one.ended (λ M. arith.one.clauses) arith.one.Symbol.routine
+one = equation (λ κs a l m. refl) (λ M. arith.one.Met.met)
+
 pub changes : LeavesOne arith.changes.ended (λ M. arith.changes.clauses) arith.changes.Symbol.routine
 changes = equation (λ κs a l m. refl) (λ M. arith.changes.Met.met)
 

@@ -59,7 +59,7 @@ pub fn limit(x: i32) -> Limited
 }
 
 // 1 if t holds, else 0.
-fn one(t: bool) -> u32
+pub fn one(t: bool) -> u32
     ensures { λ r. ⌜ r ≡ one t ⌝ }
 {
     if t {

@@ -10,9 +10,10 @@ use Rattle.g722.specs.Mirror.{lowt, hight}
 use Rattle.g722.specs.Coding.{window, ilOf, ihOf, octetOf, coderStep, octetsOf, coderAfter, splitInFull, coded}
 use Rattle.g722.specs.declared.Coder.{Coder}
 use Rattle.g722.specs.declared.Coded.{Coded}
+use Rattle.mirror.specs.declared.Parted.{Parted}
+use Rattle.mirror.specs.Block.{filteredBy, pastAfter, splitRun}
 use Rattle.coder.specs.declared.BothBands.{BothBands}
-use Rattle.coder.specs.declared.Split.{Split}
-use Rattle.coder.specs.Step.{bandsCoded, octetsBy, bandsAfter, bandsRun, filteredBy, pastAfter, splitRun}
+use Rattle.coder.specs.Step.{bandsCoded, octetsBy, bandsAfter, bandsRun}
 
 octets-in-turn : (c : Coder) (s : List ℤ)
     → octetsOf c s ≡ octetsBy (c .low) (c .high) (filteredBy lowt (c .past) s) (filteredBy hight (c .past) s)
@@ -31,7 +32,7 @@ record-in-turn c (x ∷ y ∷ rest) = record-in-turn (coderStep c x y) rest
 
 -- what the code makes of a run, step by step
 module _ (c : Coder) (s : List ℤ) where
-  pub coded-in-turn : {f : Split} {xl xh : List ℤ} {b : BothBands} {o : List ℕ} {r : Coded}
+  pub coded-in-turn : {f : Parted} {xl xh : List ℤ} {b : BothBands} {o : List ℕ} {r : Coded}
       → Does (splitRun (c .past) s) f (xl, xh) → Does (bandsRun (c .low) (c .high) xl xh) b o
       → r ≡ record { number = 0; index = 0; limited = f .limited; next = record { low = b .low; high = b .high; past = f .past } }
       → Does (coded c s) r o

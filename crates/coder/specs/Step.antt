@@ -1,20 +1,16 @@
--- What the parts of the coder give back: a word with the band after it, an octet with both, and runs of the bands and of the filter.
+-- What the parts of the coder give back: a word with the band after it, an octet with both, and runs of the bands.
 -- Assumes nothing.
-use mathlib.Core.List.{List, [], _∷_, _++_}
+use mathlib.Core.List.{List, [], _∷_}
 use Prim.Native.Nat.{ℕ}
 use lib.IntN.{ℤ}
-use lib.ListN.{drop}
 use Rattle.laws.specs.Outcome.{Outcome}
-use Rattle.g722.specs.Arithmetic.{limit, overloads}
 use Rattle.g722.specs.Band.{lowAfter, highAfter}
-use Rattle.g722.specs.Mirror.{lowt, hight}
 use Rattle.g722.specs.Octet.{octet}
-use Rattle.g722.specs.Coding.{lowWordOf, highWordOf, splitInFull}
+use Rattle.g722.specs.Coding.{lowWordOf, highWordOf}
 use Rattle.g722.specs.declared.Band.{Band}
 use Rattle.coder.specs.declared.Word.{Word}
 use Rattle.coder.specs.declared.Banded.{Banded}
 use Rattle.coder.specs.declared.BothBands.{BothBands}
-use Rattle.coder.specs.declared.Split.{Split}
 
 unfoldable pub lowCoded : Band → ℤ → Word
 lowCoded s x = record { word = lowWordOf s x; next = lowAfter s (lowWordOf s x) }
@@ -46,23 +42,3 @@ bandsAfter low high (xl ∷ xls) (xh ∷ xhs) =
 
 abbrev pub bandsRun : Band → Band → List ℤ → List ℤ → Outcome BothBands (List ℕ)
 bandsRun low high xls xhs = record { answer = bandsAfter low high xls xhs; left = octetsBy low high xls xhs }
-
--- the transmit filter over a run of samples: a signal of each pair, XL or XH, and the 22 samples that the next run sees again
-unfoldable pub filteredBy : (List ℤ → ℤ) → List ℤ → List ℤ → List ℤ
-filteredBy filter past [] = []
-filteredBy filter past (x ∷ []) = []
-filteredBy filter past (x ∷ y ∷ rest) =
-    let w = past ++ (x ∷ y ∷ []) in
-    limit (filter w) ∷ filteredBy filter (drop 2 w) rest
-
-unfoldable pub pastAfter : List ℤ → List ℤ → List ℤ
-pastAfter past [] = past
-pastAfter past (x ∷ []) = past
-pastAfter past (x ∷ y ∷ rest) = pastAfter (drop 2 (past ++ (x ∷ y ∷ []))) rest
-
-abbrev pub splitRun : List ℤ → List ℤ → Outcome Split (List ℤ × List ℤ)
-splitRun past samples =
-    record {
-      answer = record { limited = overloads (splitInFull past samples); past = pastAfter past samples };
-      left = (filteredBy lowt past samples, filteredBy hight past samples);
-    }

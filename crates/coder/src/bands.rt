@@ -1,9 +1,13 @@
 // The two sub-band coders: a signal of each band to an octet.
 ghost use mathlib.Core.Path.{_≡_};
-ghost use Prim.Native.Nat.{_<_};
+ghost use mathlib.Core.Bool.{true};
+ghost use mathlib.Core.List.{zipWith};
+ghost use Prim.Native.Nat.{_≤_, _<_};
 ghost use lib.ListN.{length};
 ghost use Rattle.laws.specs.Outcome.{Does};
+ghost use Rattle.g722.specs.Records.{goodPoles};
 ghost use Rattle.g722.specs.Octet.{octet};
+ghost use Rattle.coder.specs.ByBand.{together};
 ghost use Rattle.coder.specs.Step.{lowCoded, highCoded, bandsCoded, bandsRun};
 use crate::Banded;
 use crate::BothBands;
@@ -18,6 +22,7 @@ use quant::invqal;
 use quant::low_factors;
 use quant::quanth;
 use quant::quantl;
+use sweep::code_band;
 
 // The low band's word for its signal.
 pub fn low_coded(s: Band, x: i16) -> Word
@@ -70,25 +75,35 @@ pub fn bands_coded(low: Band, high: Band, xl: i16, xh: i16) -> Banded
     }
 }
 
-// Both bands over a run of signals.
+// The low band's words become octets: the high band's two bits go above each.
+fn put_together(words: &[u8], octets: &mut [u8])
+    requires { ⌜ length (now words) ≡ length (now octets) ⌝ }
+    ensures { λ r. ⌜ now (octets .exit) ≡ zipWith together (now (words .entry)) (now (octets .entry)) ⌝ }
+{
+    for i in 0..octets.len() {
+        octets[i] = octets[i] % 64 + 64 * (words[i] / 4 % 4);
+    }
+}
+
+// Both bands over a block of signals, one after the other, with lent room for the high band's words.
 pub(crate) fn bands_all(
     low: Band,
     high: Band,
     xl: &[i16],
     xh: &[i16],
+    words: &mut [u8],
     octets: &mut [u8],
 ) -> BothBands
+    requires { ⌜ length (now octets) ≤ 160 ⌝ }
+    requires { ⌜ length (now words) ≡ length (now octets) ⌝ }
     requires { ⌜ length (now xl) ≡ length (now octets) ⌝ }
     requires { ⌜ length (now xh) ≡ length (now octets) ⌝ }
+    requires { ⌜ goodPoles (low .poles) ≡ true ⌝ }
+    requires { ⌜ goodPoles (high .poles) ≡ true ⌝ }
     ensures { λ r. ⌜ Does (bandsRun low high (now (xl .entry)) (now (xh .entry))) r (now (octets .exit)) ⌝ }
 {
-    let mut l = low;
-    let mut h = high;
-    for i in 0..octets.len() {
-        let b = bands_coded(l, h, xl[i], xh[i]);
-        octets[i] = b.octet;
-        l = b.low;
-        h = b.high;
-    }
+    let l = code_band(false, low, xl, octets);
+    let h = code_band(true, high, xh, words);
+    put_together(words, octets);
     BothBands { low: l, high: h }
 }

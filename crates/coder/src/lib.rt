@@ -1,13 +1,13 @@
 // The coding call: samples to octets, with its refusals 3, 2, 4 (SCOPE 8). A block of samples goes through the transmit filter first, and
 // then its signals through both bands: so the filter is a loop of its own, which the compiler makes four pairs at a time of.
 mod bands;
-mod signals;
 
 ghost use mathlib.Core.Path.{_≡_};
+ghost use mathlib.Core.Bool.{true};
 ghost use Prim.Native.Nat.{_*_, _≤_};
 ghost use lib.ListN.{length};
 ghost use Rattle.laws.specs.Outcome.{Does};
-ghost use Rattle.g722.specs.Records.{resetCoder, goodCoder};
+ghost use Rattle.g722.specs.Records.{allInRange, resetCoder, goodCoder};
 ghost use Rattle.g722.specs.Coding.{coded, codeCall};
 use bands::bands_all;
 pub use bands::bands_coded;
@@ -24,7 +24,7 @@ use bounds::reset_band;
 use g722::Band;
 use g722::Coded;
 use g722::Coder;
-use signals::split_all;
+use mirror::split;
 
 // A band's code word, and the band after it.
 pub struct Word {
@@ -43,12 +43,6 @@ pub struct Banded {
 pub struct BothBands {
     pub low: Band,
     pub high: Band,
-}
-
-// What the transmit filter leaves of a run: how many of its signals were limited, and the 22 samples that the next one sees again.
-pub(crate) struct Split {
-    pub(crate) limited: u32,
-    pub(crate) past: [i16; 22],
 }
 
 // The record from which both ends start.
@@ -96,19 +90,29 @@ fn done(limited: u32, c: Coder) -> Coded
     }
 }
 
-// The filter and then the bands, with lent room for the signals on their way.
-fn in_turn(c: Coder, samples: &[i16], low: &mut [i16], high: &mut [i16], octets: &mut [u8]) -> Coded
-    requires { ⌜ length (now octets) ≤ 8000 ⌝ }
+// The filter and then the bands, with lent room for the signals and words on their way.
+fn in_turn(
+    c: Coder,
+    samples: &[i16],
+    low: &mut [i16],
+    high: &mut [i16],
+    words: &mut [u8],
+    octets: &mut [u8],
+) -> Coded
+    requires { ⌜ length (now octets) ≤ 160 ⌝ }
     requires { ⌜ length (now samples) ≡ 2 * length (now octets) ⌝ }
     requires { ⌜ length (now low) ≡ length (now octets) ⌝ }
     requires { ⌜ length (now high) ≡ length (now octets) ⌝ }
+    requires { ⌜ length (now words) ≡ length (now octets) ⌝ }
+    requires { ⌜ goodCoder c ≡ true ⌝ }
+    requires { ⌜ allInRange (now samples) ≡ true ⌝ }
     ensures { λ r. ⌜ Does (coded c (now (samples .entry))) r (now (octets .exit)) ⌝ }
 {
     let past = c.past;
     let low_band = c.low;
     let high_band = c.high;
-    let s = split_all(past, samples, low, high);
-    let b = bands_all(low_band, high_band, low, high, octets);
+    let s = split(past, samples, low, high);
+    let b = bands_all(low_band, high_band, low, high, words, octets);
     let low_next = b.low;
     let high_next = b.high;
     let past_next = s.past;
@@ -120,29 +124,41 @@ fn in_turn(c: Coder, samples: &[i16], low: &mut [i16], high: &mut [i16], octets:
     done(s.limited, next)
 }
 
-// The same over at most 32 pairs, with room of its own.
+// The same over a block, with room of its own, which begins as ones: for zeros the compiler would call C's memset.
 fn block(c: Coder, samples: &[i16], octets: &mut [u8]) -> Coded
-    requires { ⌜ length (now octets) ≤ 32 ⌝ }
+    requires { ⌜ length (now octets) ≤ 160 ⌝ }
     requires { ⌜ length (now samples) ≡ 2 * length (now octets) ⌝ }
+    requires { ⌜ goodCoder c ≡ true ⌝ }
+    requires { ⌜ allInRange (now samples) ≡ true ⌝ }
     ensures { λ r. ⌜ Does (coded c (now (samples .entry))) r (now (octets .exit)) ⌝ }
 {
     let n = octets.len();
-    let mut low = [0i16; 32];
-    let mut high = [0i16; 32];
-    in_turn(c, samples, &mut low[..n], &mut high[..n], octets)
+    let mut low = [1i16; 160];
+    let mut high = [1i16; 160];
+    let mut words = [0u8; 160];
+    in_turn(
+        c,
+        samples,
+        &mut low[..n],
+        &mut high[..n],
+        &mut words[..n],
+        octets,
+    )
 }
 
 // Block after block.
 fn run(c: Coder, samples: &[i16], octets: &mut [u8]) -> Coded
     requires { ⌜ length (now octets) ≤ 8000 ⌝ }
     requires { ⌜ length (now samples) ≡ 2 * length (now octets) ⌝ }
+    requires { ⌜ goodCoder c ≡ true ⌝ }
+    requires { ⌜ allInRange (now samples) ≡ true ⌝ }
     ensures { λ r. ⌜ Does (coded c (now (samples .entry))) r (now (octets .exit)) ⌝ }
 {
     let mut s = c;
     let mut limited: u32 = 0;
     let mut at = 0;
     while at < octets.len() {
-        let to = at + lesser(32, octets.len() - at);
+        let to = at + lesser(160, octets.len() - at);
         let t = block(s, &samples[2 * at..2 * to], &mut octets[at..to]);
         s = t.next;
         limited = limited + t.limited;

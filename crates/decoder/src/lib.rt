@@ -4,6 +4,7 @@ mod samples;
 mod signals;
 
 ghost use mathlib.Core.Path.{_≡_};
+ghost use mathlib.Core.Bool.{true};
 ghost use Prim.Native.Nat.{_*_, _≤_};
 ghost use lib.ListN.{length};
 ghost use Rattle.laws.specs.Outcome.{Does};
@@ -25,9 +26,9 @@ pub use octet::high_heard;
 pub use octet::low_heard;
 use quant::in_force;
 pub use samples::join;
-use samples::join_all;
+use samples::join_block;
 pub use signals::hear;
-use signals::hear_all;
+use signals::hear_block;
 
 // A band's heard signal, limited, and the band after it.
 pub struct Signal {
@@ -95,25 +96,27 @@ fn in_turn(
     high: &mut [i16],
     samples: &mut [i16],
 ) -> Decoded
-    requires { ⌜ length (now octets) ≤ 8000 ⌝ }
+    requires { ⌜ length (now octets) ≤ 160 ⌝ }
     requires { ⌜ length (now low) ≡ length (now octets) ⌝ }
     requires { ⌜ length (now high) ≡ length (now octets) ⌝ }
     requires { ⌜ length (now samples) ≡ 2 * length (now octets) ⌝ }
+    requires { ⌜ goodDecoder d ≡ true ⌝ }
     ensures { λ r. ⌜ Does (decoded mode d (now (octets .entry))) r (now (samples .exit)) ⌝ }
 {
-    let heard = hear_all(mode, d, octets, low, high);
-    join_all(heard.next, low, high, samples)
+    let heard = hear_block(mode, d, octets, low, high);
+    join_block(heard.next, low, high, samples)
 }
 
-// The same over at most 32 octets, with room of its own.
+// The same over a block, with room of its own, which begins as ones: for zeros the compiler would call C's memset.
 fn block(mode: u8, d: Decoder, octets: &[u8], samples: &mut [i16]) -> Decoded
-    requires { ⌜ length (now octets) ≤ 32 ⌝ }
+    requires { ⌜ length (now octets) ≤ 160 ⌝ }
     requires { ⌜ length (now samples) ≡ 2 * length (now octets) ⌝ }
+    requires { ⌜ goodDecoder d ≡ true ⌝ }
     ensures { λ r. ⌜ Does (decoded mode d (now (octets .entry))) r (now (samples .exit)) ⌝ }
 {
     let n = octets.len();
-    let mut low = [0i16; 32];
-    let mut high = [0i16; 32];
+    let mut low = [1i16; 160];
+    let mut high = [1i16; 160];
     in_turn(mode, d, octets, &mut low[..n], &mut high[..n], samples)
 }
 
@@ -121,13 +124,14 @@ fn block(mode: u8, d: Decoder, octets: &[u8], samples: &mut [i16]) -> Decoded
 fn run(mode: u8, d: Decoder, octets: &[u8], samples: &mut [i16]) -> Decoded
     requires { ⌜ length (now octets) ≤ 8000 ⌝ }
     requires { ⌜ length (now samples) ≡ 2 * length (now octets) ⌝ }
+    requires { ⌜ goodDecoder d ≡ true ⌝ }
     ensures { λ r. ⌜ Does (decoded mode d (now (octets .entry))) r (now (samples .exit)) ⌝ }
 {
     let mut s = d;
     let mut limited: u32 = 0;
     let mut at = 0;
     while at < octets.len() {
-        let to = at + lesser(32, octets.len() - at);
+        let to = at + lesser(160, octets.len() - at);
         let t = block(mode, s, &octets[at..to], &mut samples[2 * at..2 * to]);
         s = t.next;
         limited = limited + t.limited;

@@ -58,7 +58,24 @@ pub high-good : (s : Band) (ih : ℕ) → goodHigh (highAfter s ih) ≡ true
 unfolding goodHigh highAfter nextBand highFactors logsch
 high-good s ih = both (poles-good (s .poles) _ _) (factors-good (pos 22528) _ _ scaleh (leZ-yes tt))
 
+-- a band that is good has good poles
+pub low-poles : (s : Band) → goodLow s ≡ true → goodPoles (s .poles) ≡ true
+unfolding goodLow
+low-poles s g = left-true (goodPoles (s .poles)) (goodFactors (pos 18432) scalel (s .factors)) g
+
+pub high-poles : (s : Band) → goodHigh s ≡ true → goodPoles (s .poles) ≡ true
+unfolding goodHigh
+high-poles s g = left-true (goodPoles (s .poles)) (goodFactors (pos 22528) scaleh (s .factors)) g
+
 -- ---- the coder
+
+pub coder-poles : (c : Coder) → goodCoder c ≡ true → (goodPoles (c .low .poles) ≡ true) × (goodPoles (c .high .poles) ≡ true)
+unfolding goodCoder
+coder-poles c g =
+    let bands = left-true (goodLow (c .low) && goodHigh (c .high)) (allInRange (c .past)) g in (
+      low-poles (c .low) (left-true (goodLow (c .low)) (goodHigh (c .high)) bands),
+      high-poles (c .high) (right-true (goodLow (c .low)) (goodHigh (c .high)) bands),
+    )
 
 pub coder-step-good : (c : Coder) (x y : ℤ) → goodCoder c ≡ true → inRange x ≡ true → inRange y ≡ true
     → goodCoder (coderStep c x y) ≡ true

@@ -11,3 +11,5 @@ pub mod CodedRuns
 pub mod Good
 pub mod Fits
 pub mod Signals
+pub mod Chain
+pub mod Blocks

@@ -7,7 +7,7 @@ use Prim.Native.Nat.{ℕ, zero, suc, _≤_, _<_}
 use native.Mathlib.Nat.{le-of-suc-le-suc}
 use native.Mathlib.Omega.{arith}
 use lib.IntN.{ℤ, pos}
-use lib.ListN.{length, drop}
+use lib.ListN.{length, take, drop}
 use lib.Signed.{leZ-yes}
 use Rattle.laws.specs.Both.{both, left-true, right-true}
 use Rattle.laws.specs.Clamp.{clamp-within}
@@ -35,6 +35,13 @@ unfolding allInRange
 range-drop zero xs p = p
 range-drop (suc n) [] p = refl
 range-drop (suc n) (x ∷ xs) p = range-drop n xs (right-true (inRange x) (allInRange xs) p)
+
+pub range-take : (n : ℕ) (xs : List ℤ) → allInRange xs ≡ true → allInRange (take n xs) ≡ true
+unfolding allInRange
+range-take zero xs p = refl
+range-take (suc n) [] p = refl
+range-take (suc n) (x ∷ xs) p =
+    both (left-true (inRange x) (allInRange xs) p) (range-take n xs (right-true (inRange x) (allInRange xs) p))
 
 pub all-clean : (s : List ℤ) → length s ≤ firstBad s → allInRange s ≡ true
 unfolding allInRange firstBad

@@ -11,7 +11,7 @@ use lib.Dec.{ltb}
 use lib.IntN.{ℤ}
 use lib.ListN.{length, drop}
 use Rattle.laws.specs.Both.{both, left-true, right-true}
-use Rattle.g722.specs.Records.{inRange, allInRange, goodLow, goodHigh, goodDecoder}
+use Rattle.g722.specs.Records.{inRange, allInRange, goodPoles, goodLow, goodHigh, goodDecoder}
 use Rattle.g722.specs.Octet.{highWord, lowWord}
 use Rattle.g722.specs.Coding.{firstBad}
 use Rattle.g722.specs.Decoding.{rlOf, rhOf}
@@ -21,7 +21,7 @@ use Rattle.g722.specs.declared.Band.{Band}
 use Rattle.g722.specs.declared.Pairs.{Pairs}
 use Rattle.g722.specs.declared.Decoder.{Decoder}
 use Rattle.facts.specs.Range.{range-append, range-drop, all-clean, none-bad-pair, rl-in-range, rh-in-range}
-use Rattle.facts.specs.Good.{low-good, high-good}
+use Rattle.facts.specs.Good.{low-good, high-good, low-poles, high-poles}
 
 -- ---- a band over a run
 
@@ -82,7 +82,7 @@ pub record GoodParts (d : Decoder) : Type 0 where
   pub rl : allInRange (d .past .rl) ≡ true
   pub rh : allInRange (d .past .rh) ≡ true
 
-parts : (d : Decoder) → goodDecoder d ≡ true → GoodParts d
+pub parts : (d : Decoder) → goodDecoder d ≡ true → GoodParts d
 unfolding goodDecoder
 parts d g =
     let bands = goodLow (d .low) && goodHigh (d .high) in
@@ -98,6 +98,10 @@ parts d g =
 whole : (d : Decoder) → GoodParts d → goodDecoder d ≡ true
 unfolding goodDecoder
 whole d p = both (both (both (p .low) (p .high)) (p .rl)) (p .rh)
+
+-- its bands have good poles
+pub decoder-poles : (d : Decoder) → goodDecoder d ≡ true → (goodPoles (d .low .poles) ≡ true) × (goodPoles (d .high .poles) ≡ true)
+decoder-poles d g = let p = parts d g in (low-poles (d .low) (p .low), high-poles (d .high) (p .high))
 
 -- the first step makes good bands, and leaves the past pairs
 pub heard-good : (d : Decoder) (os : List ℕ) → goodDecoder d ≡ true → goodDecoder (heardAfter d os) ≡ true

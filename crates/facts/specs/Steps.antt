@@ -7,6 +7,7 @@ use native.Mathlib.Omega.{arith}
 use lib.IntN.{ℤ}
 use lib.ListN.{length}
 use Rattle.g722.specs.Arithmetic.{limit}
+use Rattle.g722.specs.Mirror.{accumc, accumd}
 use Rattle.g722.specs.Decoding.{ylOf, yhOf, rlOf, rhOf, rlRow, rhRow, firstOf, secondOf, decoderStep}
 use Rattle.g722.specs.Decoding.{samplesInFull, samplesOf, decoderAfter}
 use Rattle.g722.specs.Steps.{signalsOf, bandAfter, lowNext, highNext, ylsOf, yhsOf, rlsOf, rhsOf, heardAfter}
@@ -77,3 +78,36 @@ pub samples-cut : (mode : ℕ) (d : Decoder) (os rest : List ℕ)
 unfolding samplesOf
 samples-cut mode d os rest =
     ap (map limit) (full-cut mode d os rest) ∙ map-append limit (samplesInFull mode d os) (samplesInFull mode (decoderAfter mode d os) rest)
+
+-- the first step: a band's signals, and the band after them
+module _ {A : Type 0} (next : Band → A → Band) where
+  pub signals-cut : (signal : Band → A → ℤ) (s : Band) (os rest : List A)
+      → signalsOf signal next s (os ++ rest) ≡ signalsOf signal next s os ++ signalsOf signal next (bandAfter next s os) rest
+  unfolding signalsOf bandAfter
+  signals-cut signal s [] rest = refl
+  signals-cut signal s (o ∷ os) rest = ap (λ (l : List ℤ). signal s o ∷ l) (signals-cut signal (next s o) os rest)
+
+  pub band-cut : (s : Band) (os rest : List A) → bandAfter next s (os ++ rest) ≡ bandAfter next (bandAfter next s os) rest
+  unfolding bandAfter
+  band-cut s [] rest = refl
+  band-cut s (o ∷ os) rest = band-cut (next s o) os rest
+
+-- the second, cut in both signals at one place
+pub joined-cut : (p : Pairs) (low high low′ high′ : List ℤ) → length high ≡ length low
+    → joinedInFull p (low ++ low′) (high ++ high′) ≡ joinedInFull p low high ++ joinedInFull (pairsAfter p low high) low′ high′
+unfolding joinedInFull pairsAfter
+joined-cut p [] [] low′ high′ e = refl
+joined-cut p [] (y ∷ high) low′ high′ e = absurd (omega arith)
+joined-cut p (x ∷ low) [] low′ high′ e = absurd (omega arith)
+joined-cut p (x ∷ low) (y ∷ high) low′ high′ e =
+    let rl = p .rl ++ (x ∷ []) in
+    let rh = p .rh ++ (y ∷ []) in
+    ap (λ (l : List ℤ). accumc rl rh ∷ accumd rl rh ∷ l) (joined-cut (pairsNext p x y) low high low′ high′ (omega arith))
+
+pub pairs-cut : (p : Pairs) (low high low′ high′ : List ℤ) → length high ≡ length low
+    → pairsAfter p (low ++ low′) (high ++ high′) ≡ pairsAfter (pairsAfter p low high) low′ high′
+unfolding pairsAfter
+pairs-cut p [] [] low′ high′ e = refl
+pairs-cut p [] (y ∷ high) low′ high′ e = absurd (omega arith)
+pairs-cut p (x ∷ low) [] low′ high′ e = absurd (omega arith)
+pairs-cut p (x ∷ low) (y ∷ high) low′ high′ e = pairs-cut (pairsNext p x y) low high low′ high′ (omega arith)

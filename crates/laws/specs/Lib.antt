@@ -10,5 +10,8 @@ pub mod Clamp
 pub mod Size
 pub mod Back
 pub mod Turns
+pub mod Machine
 pub mod Filled
+pub mod Zipped
 pub mod Parts
+pub mod Blocks

@@ -18,3 +18,7 @@ once p q = (p .answer ∙ sym (q .answer), p .left ∙ sym (q .left))
 -- by way of an equal outcome
 pub does : {A B : Type 0} {x y : Outcome A B} {r : A} {l : B} → x ≡ y → r ≡ y .answer → l ≡ y .left → Does x r l
 does e a l = record { answer = a ∙ (λ i. sym e i .answer); left = l ∙ (λ i. sym e i .left) }
+
+-- and back: what an outcome is, its equal is
+pub becomes : {A B : Type 0} {x y : Outcome A B} {r : A} {l : B} → x ≡ y → Does x r l → Does y r l
+becomes e h = record { answer = h .answer ∙ (λ i. e i .answer); left = h .left ∙ (λ i. e i .left) }

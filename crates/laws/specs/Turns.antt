@@ -6,7 +6,7 @@ use mathlib.Core.List.{List, [], _∷_, _++_, append-assoc, append-nil}
 use native.Mathlib.Numerals.{add-one}
 use native.Mathlib.Omega.{arith}
 use lib.ListN.{length, take, drop, getD, set, length-set}
-use lib.Seq.{drop-cons, take-suc-set, take-all}
+use lib.Seq.{drop-cons, drop-set-lt, take-suc-set, take-all}
 
 module _ {A : Type 0} where
   -- one element comes off the front
@@ -25,6 +25,14 @@ module _ {A : Type 0} where
   -- a store at i
   pub put-one : (o rest : List A) (i : ℕ) (w : A) → i < length o → take (i + 1) (set o i w) ++ rest ≡ take i o ++ w ∷ rest
   put-one o rest i w h = rw (add-one, take-suc-set o i w h, append-assoc)
+
+  -- the same where what is to come stands behind it in the same list, which a store leaves as it is
+  pub still : (o : List A) (i : ℕ) (w : A) → drop (i + 1) (set o i w) ≡ drop (i + 1) o
+  still o i w = let k : i < i + 1 = omega arith in drop-set-lt (i + 1) o i w k
+
+  pub put-place : (f : List A → List A) (o : List A) (i : ℕ) (w : A) → i < length o
+      → take (i + 1) (set o i w) ++ f (drop (i + 1) (set o i w)) ≡ take i o ++ w ∷ f (drop (i + 1) o)
+  put-place f o i w h = rw still (put-one o (f (drop (i + 1) o)) i w h)
 
   -- where nothing is to come, all is done
   pub put-all : (o rest : List A) (i : ℕ) → length o ≤ i → rest ≡ [] → take i o ++ rest ≡ o

@@ -1,2 +1,4 @@
--- The answers of the two mirror filters.
-pub mod Filters
+-- What the mirror filters answer of a block, how they go over rows of numbers, and that the two agree.
+pub mod Rows
+pub mod Block
+pub mod Fitting

@@ -2,11 +2,13 @@
 ghost use mathlib.Core.Path.{_≡_};
 ghost use mathlib.Core.List.{map};
 ghost use Prim.Native.Nat.{_+_, _≤_};
+ghost use lib.IntN.{pos};
 ghost use lib.ListN.{drop};
+ghost use lib.Signed.{ltZ};
 ghost use Rattle.g722.specs.Tables.{q6, q2};
 ghost use Rattle.g722.specs.Quantise.{level, atOrBelow, quantl, quanth};
-use crate::product;
 use arith::size;
+use arith::wide;
 use g722::Interval;
 use tables::to_six;
 use tables::to_two;
@@ -44,26 +46,27 @@ const Q6: [u16; 29] = [
     2919,
 ];
 
-// A decision level at a scale.
-fn level(q: u16, scale: i16) -> i32
+// Whether a size is below the level of q at a scale. The level is q * scale / 4096, rounded down: so it is above the size exactly if
+// q * scale is at least 4096 times the size and one more, and nothing need be shifted or stopped.
+fn below(size: u16, q: u16, scale: i16) -> bool
     requires { ⌜ q ≤ 4095 ⌝ }
-    ensures { λ r. ⌜ r ≡ level scale q ⌝ }
+    ensures { λ r. ⌜ r ≡ ltZ (pos size) (level scale q) ⌝ }
 {
-    product((q * 8) as i16, scale)
+    (size as i32 + 1) * 4096 <= q as i32 * wide(scale)
 }
 
-// The interval of a size: the place of the first level above it, or 30 where there is none.
-fn low_interval(size: u16, scale: i16) -> u8
-    ensures { λ r. ⌜ r ≡ 1 + atOrBelow size (map (level scale) (drop 1 q6)) ⌝ }
+// The interval of a size that no level before the place `from` is above: the place of the first level above it, or 30 where there is none.
+fn search(from: usize, size: u16, scale: i16) -> u8
+    requires { ⌜ from ≤ 29 ⌝ }
+    ensures { λ r. ⌜ r ≡ 1 + (from + atOrBelow size (drop from (map (level scale) (drop 1 q6)))) ⌝ }
 {
     let q = Q6;
-    let s = size as i32;
-    let mut i: usize = 0;
+    let mut i = from;
     let r = loop {
         if 29 <= i {
             break 30;
         }
-        if s < level(q[i], scale) {
+        if below(size, q[i], scale) {
             break (i + 1) as u8;
         }
         i = i + 1;
@@ -71,11 +74,30 @@ fn low_interval(size: u16, scale: i16) -> u8
     r
 }
 
+// The interval of a size. The levels rise, so where one of them is not above the size none before it is, and the search may begin behind
+// it. The fifth, the tenth and the nineteenth level part the 29 in four, so that a search is short; the places are written out, so that
+// the compiler can unroll each search.
+fn low_interval(size: u16, scale: i16) -> u8
+    ensures { λ r. ⌜ r ≡ 1 + atOrBelow size (map (level scale) (drop 1 q6)) ⌝ }
+{
+    let q = Q6;
+    if below(size, q[9], scale) {
+        if below(size, q[4], scale) {
+            return search(0, size, scale);
+        }
+        return search(5, size, scale);
+    }
+    if below(size, q[18], scale) {
+        return search(10, size, scale);
+    }
+    search(19, size, scale)
+}
+
 // The interval in the high band, which has one level.
 fn high_interval(size: u16, scale: i16) -> u8
     ensures { λ r. ⌜ r ≡ 1 + atOrBelow size (map (level scale) (drop 1 q2)) ⌝ }
 {
-    if (size as i32) < level(564, scale) {
+    if below(size, 564, scale) {
         return 1;
     }
     2

@@ -5,11 +5,12 @@ use libc::STDOUT_FILENO;
 
 // Whether XL and XH are these after 24 samples c.
 fn steady(c: i16, low: i16, high: i16) -> bool {
-    let window = [c; 24];
-    let halves = mirror::split(&window);
-    let xl = halves.xl;
-    let xh = halves.xh;
-    arith::equal(xl.value, low) && arith::equal(xh.value, high)
+    let past = [c; 22];
+    let pair = [c, c];
+    let mut xl = [0i16; 1];
+    let mut xh = [0i16; 1];
+    mirror::split(past, &pair, &mut xl, &mut xh);
+    arith::equal(xl[0], low) && arith::equal(xh[0], high)
 }
 
 // Counts the samples of which it holds, from the lowest on.

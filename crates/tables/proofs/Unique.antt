@@ -24,6 +24,15 @@ wh-at = equation (λ κs a l m. refl) (λ M. tables.wh_at.Met.met)
 pub scale-at : LeavesOne tables.scale_at.ended (λ M. tables.scale_at.clauses) tables.scale_at.Symbol.routine
 scale-at = equation (λ κs a l m. refl) (λ M. tables.scale_at.Met.met)
 
+pub outputs : LeavesOne tables.outputs.ended (λ M. tables.outputs.clauses) tables.outputs.Symbol.routine
+outputs = equation (λ κs a l m. refl) (λ M. tables.outputs.Met.met)
+
+pub weights : LeavesOne tables.weights.ended (λ M. tables.weights.clauses) tables.weights.Symbol.routine
+weights = equation (λ κs a l m. refl) (λ M. tables.weights.Met.met)
+
+pub ilb : LeavesOne tables.ilb.ended (λ M. tables.ilb.clauses) tables.ilb.Symbol.routine
+ilb = equation (λ κs a l m. refl) (λ M. tables.ilb.Met.met)
+
 pub to-six : LeavesOne tables.to_six.ended (λ M. tables.to_six.clauses) tables.to_six.Symbol.routine
 to-six = equation (λ κs a l m. refl) (λ M. tables.to_six.Met.met)
 

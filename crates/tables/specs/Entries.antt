@@ -3,8 +3,8 @@
 use mathlib.Core.Path.{_≡_, sym}
 use mathlib.Core.Bool.{Bool}
 use mathlib.Core.List.{List}
-use Prim.Native.Nat.{ℕ, _≤_}
-use lib.Dec.{T, ltb, leb, ltb→lt, leb→le}
+use Prim.Native.Nat.{ℕ, _≤_, zero-le}
+use lib.Dec.{T, ltb, leb, ltb→lt, leb→le, le→leb}
 use lib.IntN.{ℤ, pos}
 use lib.ListN.{length, getD, drop, List·getD-eq-default}
 use lib.Signed.{mag}
@@ -22,9 +22,9 @@ at-any d f xs out t k =
     (λ e. each-at d (λ k x. f x) xs t k (ltb-true k (length xs) e))
     (λ e. rw (List·getD-eq-default xs d (ltb-false k (length xs) e)) out)
 
--- 8 times an entry fits 16 bits
-pub entry-small : (qs : List ℕ) → T (each (λ k q. leb q 4095) 0 qs) → (k : ℕ) → getD qs k 0 ≤ 4095
-entry-small qs t k = leb→le (getD qs k 0) 4095 (at-any 0 (λ q. leb q 4095) qs tt t k)
+-- how large an entry is at most
+pub entry-small : (m : ℕ) (qs : List ℕ) → T (each (λ k q. leb q m) 0 qs) → (k : ℕ) → getD qs k 0 ≤ m
+entry-small m qs t k = leb→le (getD qs k 0) m (at-any 0 (λ q. leb q m) qs (le→leb 0 m zero-le) t k)
 
 -- a signed entry fits 16 bits
 pub entry-fits : (zs : List ℤ) → T (each (λ k z. ltb (mag z) 32768) 0 zs) → (k : ℕ) → SFits w16 (getD zs k (pos 0))
@@ -34,28 +34,28 @@ entry-fits zs t k = record { sfits = ltb→lt (mag (getD zs k (pos 0))) 32768 (a
 pub above-table : {A : Type 0} (xs : List A) (d : A) (k : ℕ) → length xs ≤ k → d ≡ getD xs k d
 above-table xs d k h = sym (List·getD-eq-default xs d h)
 
--- ---- the levels and outputs of Table 14, and Table 15
+-- ---- the levels and outputs of Table 14, and Table 15: 8 times an entry fits 16 bits
 
 pub q6-small : (k : ℕ) → getD (drop 1 q6) k 0 ≤ 4095
 unfolding q6
-q6-small = entry-small (drop 1 q6) tt
+q6-small = entry-small 4095 (drop 1 q6) tt
 
 pub qq6-small : (k : ℕ) → getD qq6 k 0 ≤ 4095
 unfolding qq6
-qq6-small = entry-small qq6 tt
+qq6-small = entry-small 4095 qq6 tt
 
 pub qq5-small : (k : ℕ) → getD qq5 k 0 ≤ 4095
 unfolding qq5
-qq5-small = entry-small qq5 tt
+qq5-small = entry-small 4095 qq5 tt
 
 pub qq4-small : (k : ℕ) → getD qq4 k 0 ≤ 4095
 unfolding qq4
-qq4-small = entry-small qq4 tt
+qq4-small = entry-small 4095 qq4 tt
 
 pub qq2-small : (k : ℕ) → getD qq2 k 0 ≤ 4095
 unfolding qq2
-qq2-small = entry-small qq2 tt
+qq2-small = entry-small 4095 qq2 tt
 
 pub ila-small : (k : ℕ) → getD ila k 0 ≤ 4095
 unfolding ila
-ila-small = entry-small ila tt
+ila-small = entry-small 4095 ila tt

@@ -1,5 +1,7 @@
-//! What the tests share: samples as bytes, dice, and ways to cut a stream.
+//! What the tests share: samples as bytes, dice, ways to cut a stream, and calls beside the second codec's.
 #![allow(dead_code)]
+
+pub mod beside;
 
 use second::material::{stream, Kind, Stream, ALL};
 

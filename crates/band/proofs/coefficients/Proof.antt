@@ -12,7 +12,7 @@ use mir.Facts.{toZ-ofZ}
 use Rattle.laws.specs.Back.{back16, got16}
 use Rattle.laws.specs.Filled.{Filled, fill, filled}
 use Rattle.g722.specs.Band.{upzero}
-use Rattle.band.proofs.Laws.{zip-length, zip-at}
+use Rattle.laws.specs.Zipped.{zip-length, zip-at}
 use Rattle.band.proofs.coefficients.Statement.{statement}
 use Rattle.band.proofs.coefficients.Tie as tie
 

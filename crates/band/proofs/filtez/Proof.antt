@@ -11,7 +11,8 @@ use mir.Val.{toZ, ofZ}
 use Rattle.laws.specs.Back.{got16, back16}
 use Rattle.g722.specs.Arithmetic.{add}
 use Rattle.g722.specs.Band.{filtez, term, sums}
-use Rattle.band.proofs.Laws.{zip-at, zip-length, added, summed}
+use Rattle.laws.specs.Zipped.{zip-at, zip-length}
+use Rattle.facts.specs.Chain.{added, summed}
 use Rattle.band.proofs.filtez.Statement.{statement}
 use Rattle.band.proofs.filtez.Tie as tie
 

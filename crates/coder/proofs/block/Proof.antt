@@ -8,13 +8,15 @@ use Rattle.coder.proofs.block.Tie as tie
 
 in-turn-requires : tie.Need-in-turn-requires
 in-turn-requires c κs =
-    let s = c .before .before .before .before in
-    (omega arith, (s .pre .1, (length-take-le _ _ (s .pre .0), length-take-le _ _ (s .pre .0))))
+    let p = c .before .before .before .before .before .pre in
+    (p .0, (p .1 .0, (length-take-le _ _ (p .0), (length-take-le _ _ (p .0), (length-take-le _ _ (p .0), p .1 .1)))))
 
 pub block-spec : {M : Type 1} → statement M
 block-spec =
     tie.close
     (tie.spec
+    (λ c. search needs)
+    (λ c. sym (length-take-le _ _ (omega arith)))
     (λ c. search needs)
     (λ c. sym (length-take-le _ _ (omega arith)))
     (λ c. search needs)

@@ -58,8 +58,11 @@ returns-4 c =
 
 run-requires : tie.Need-run-requires
 run-requires c κs =
-    let fit = fits (c .before .before .before .before) in
-    (few _ _ fit, twice _ _ fit)
+    let e = c .before in
+    let g = e .before .before in
+    let fit = fits (g .before) in
+    let clean = sym (e .before .all-in-range .ensures) ∙ not-false _ (e .if3 .left) in
+    (few _ _ fit, (twice _ _ fit, (from-good g, clean)))
 
 pub code-spec : {M : Type 1} → statement M
 code-spec =

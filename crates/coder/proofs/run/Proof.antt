@@ -1,82 +1,99 @@
--- `coder::run` meets its contract: what is left to do from here, from the record as it is, gives the whole.
-use mathlib.Core.Path.{_∙_}
+-- `coder::run` meets its contract: what was done of the pairs so far, and then a block of them, is what is done of so many more.
+use mathlib.Core.Path.{_≡_, refl, sym, ap, _∙_}
 use Prim.Native.Nat.{ℕ, _≤_, _*_, _-_, _+_, zero-le}
 use native.Mathlib.Omega.{arith}
-use lib.ListN.{length}
+use lib.ListN.{length, take, drop, length-take}
+use lib.Seq.{take-all}
 use borrow.Rule.Slice.PartMut.{mid-len}
-use Rattle.g722.specs.Coding.{coded}
-use Rattle.coder.proofs.Blocks.{RunSoFar, run-begun, block-count, block-more, record-ended, count-ended, octets-ended}
+use Rattle.laws.specs.Outcome.{Does, does}
+use Rattle.laws.specs.Blocks.{part-long, part-put}
+use Rattle.facts.specs.Range.{range-take, range-drop}
+use Rattle.facts.specs.Blocks.{coderDone, coded-more, coded-next-good, coded-few}
+use Rattle.g722.specs.Arithmetic.{overloads}
+use Rattle.g722.specs.Coding.{octetsOf, coderAfter, splitInFull, coded}
 use Rattle.coder.proofs.run.Statement.{statement}
 use Rattle.coder.proofs.run.Tie as tie
 
 abbrev Inv-loop : tie.InvT-loop
 Inv-loop samples octets₀ s₀ limited₀ at₀ octets s limited at =
-    (at ≤ length octets₀) × RunSoFar s₀ samples octets₀ s octets limited at
+    (at ≤ length octets₀)
+    × (length octets ≡ length octets₀)
+    × Does (coded s₀ (take (2 * at) samples)) (coderDone limited s) (take at octets)
 
 abbrev μ-loop : tie.MeasureT-loop
 μ-loop samples octets₀ s₀ limited₀ at₀ octets s limited at = length octets₀ - at
 
 loop-holds : tie.Need-loop-holds Inv-loop μ-loop
-loop-holds c = (zero-le, run-begun _ _ _)
+unfolding coded octetsOf coderAfter splitInFull overloads
+loop-holds c = (zero-le, refl, record { answer = refl; left = refl })
 
 -- where a block ends, which is within the octets, and its samples within theirs
 module _ (l : tie.After-lesser Inv-loop μ-loop) where
-  abbrev at : tie.At-loop Inv-loop μ-loop
-  at = l .before .before
+  abbrev lp : tie.At-loop Inv-loop μ-loop
+  lp = l .before .before
 
   abbrev start : tie.Start Inv-loop μ-loop
-  start = at .before .before
+  start = lp .before .before
 
   abbrev to : ℕ
-  to = at .loop .at + l .lesser .result
+  to = lp .loop .at + l .lesser .result
 
-  on : at .loop .at ≤ to
+  on : lp .loop .at ≤ to
   on = omega arith
 
-  room : to ≤ length (at .loop .octets)
-  room = omega (arith, l .lesser .ensures, at .loop .inv .1 .long)
+  room : to ≤ length (lp .loop .octets)
+  room = omega (arith, l .lesser .ensures)
 
   within : 2 * to ≤ length (start .args .samples .now)
-  within = omega (arith, room, at .loop .inv .1 .long, start .pre .1)
+  within = omega (arith, room, start .pre .1 .0)
+
+  behind : 2 * lp .loop .at ≤ length (start .args .samples .now)
+  behind = omega (arith, within)
 
 block-requires : tie.Need-block-requires Inv-loop μ-loop
 block-requires c κs =
     let l = c .before .before in
-    let octets = mid-len (at l .loop .at) (to l) (at l .loop .octets) (room l) in
-    let samples = mid-len (2 * at l .loop .at) (2 * to l) (start l .args .samples .now) (within l) in
-    (omega (arith, l .lesser .ensures, octets), omega (arith, octets, samples))
+    let at = lp l .loop .at in
+    let samples = start l .args .samples .now in
+    let n = mid-len at (to l) (lp l .loop .octets) (room l) in
+    let m = mid-len (2 * at) (2 * to l) samples (within l) in
+    let g = start l .pre .1 .1 in
+    let good = coded-next-good _ (take (2 * at) samples) (lp l .loop .inv .2) (g .0) (range-take (2 * at) samples (g .1)) in
+    let clean = range-take (2 * to l - 2 * at) (drop (2 * at) samples) (range-drop (2 * at) samples (g .1)) in
+    (omega (arith, l .lesser .ensures, n), (omega (arith, n, m), (good, clean)))
 
 add-limited : tie.Need-add-limited Inv-loop μ-loop
 add-limited c =
     let b = c .before .before .before .before in
     let l = b .before .before .before in
-    omega (arith, start l .pre, block-count _ _ _ (at l .loop .inv .1) (to l) (on l) (within l) (b .block .ensures .answer))
+    let samples = start l .args .samples .now in
+    let more = coded-more _ samples (on l) (behind l) (lp l .loop .inv .2) (b .block .ensures) in
+    omega (arith, coded-few _ (take (2 * to l) samples) more, length-take (2 * to l) samples, start l .pre .0, start l .pre .1 .0)
 
 loop-again : tie.Need-loop-again Inv-loop μ-loop
 loop-again c =
     let b = c .before .before .before .before in
     let l = b .before .before .before in
-    let f = at l .loop .inv .1 in (
-      omega (arith, room l, f .long),
-      block-more _ _ _ f (to l) (on l) (within l) (b .block .ensures .answer) (room l) (b .block .ensures .left),
+    let octets = lp l .loop .octets in
+    let y = b .block .last .1 .1 .0 in
+    let same = b .block .kept .1 .1 .0 in
+    let more = coded-more _ (start l .args .samples .now) (on l) (behind l) (lp l .loop .inv .2) (b .block .ensures) in (
+      omega (arith, room l),
+      part-long (on l) octets y same ∙ lp l .loop .inv .1,
+      record { answer = more .answer; left = part-put (on l) octets y same (room l) ∙ more .left },
     )
 
 same-length : tie.Need-same-length Inv-loop μ-loop
-same-length c = c .before .before .loop .inv .1 .long
+same-length c = c .before .before .loop .inv .1
 
 returns : tie.Need-returns Inv-loop μ-loop
-unfolding coded
 returns c =
-    let l = c .before .before .loop in
-    let s = c .before .before .before .before in
-    let f = l .inv .1 in
-    let done : length (s .args .samples .now) ≤ 2 * l .at = omega (arith, f .long, s .pre) in
-    let next = record-ended _ _ _ f done in
-    let count = count-ended _ _ _ f done in
-    record {
-      answer = c .done .ensures ∙ λ i. record { number = 0; index = 0; limited = count i; next = next i };
-      left = octets-ended _ _ _ f done (omega (arith, f .long));
-    }
+    let lp = c .before .before in
+    let v = lp .loop .inv in
+    let s = lp .before .before in
+    let all = take-all (2 * lp .loop .at) (s .args .samples .now) (omega (arith, s .pre .1 .0)) in
+    let full = take-all (lp .loop .at) (lp .loop .octets) (omega arith) in
+    does (ap (coded (s .args .c)) (sym all)) (c .done .ensures ∙ v .2 .answer) (sym full ∙ v .2 .left)
 
 pub run-spec : {M : Type 1} → statement M
 run-spec =
@@ -85,18 +102,18 @@ run-spec =
     Inv-loop
     μ-loop
     loop-holds
-    (λ c. omega (arith, c .before .loop .inv .1 .long))
+    (λ c. omega arith)
     (λ c κs. tt)
-    (λ c. omega (arith, within c))
-    (λ c. omega (arith, within c))
-    (λ c. omega (arith, within c))
-    (λ c. omega (arith, within c))
     (λ c. omega arith)
     (λ c. omega arith)
-    within
     (λ c. omega arith)
     (λ c. omega arith)
-    (λ c. room (c .before))
+    (λ c. omega arith)
+    (λ c. omega arith)
+    (λ c. omega arith)
+    (λ c. omega arith)
+    (λ c. omega arith)
+    (λ c. omega arith)
     block-requires
     add-limited
     (λ c. omega arith)

@@ -1,6 +1,6 @@
 -- `decoder::decode` meets its contract: each way out is a case of the definition.
 use mathlib.Core.Path.{_≡_, refl, sym, ap, _∙_}
-use mathlib.Core.Bool.{false}
+use mathlib.Core.Bool.{true, false}
 use native.Mathlib.Omega.{arith}
 use borrow.Author.Needs.{needs}
 use borrow.Author.Tests.{not-true, not-false}
@@ -8,6 +8,7 @@ use Prim.Native.Nat.{ℕ}
 use lib.ListN.{length}
 use Rattle.laws.specs.Outcome.{does}
 use Rattle.facts.specs.Lengths.{twice, few}
+use Rattle.g722.specs.Records.{goodDecoder}
 use Rattle.g722.specs.Coding.{misfit}
 use Rattle.g722.specs.Decoding.{notDecoded, decoded}
 use Rattle.decoder.proofs.Laws.{call-mode, call-misfit, call-broken, call-done}
@@ -38,6 +39,10 @@ returns-3 c =
     does (call-broken _ _ _ _ (omega arith) (fits (t .before)) broken)
     (c .refused3 .ensures) refl
 
+-- past the third
+good : (e : tie.Else3) → goodDecoder (e .before .before .before .before .before .before .args .d) ≡ true
+good e = sym (e .before .before .before .good-decoder .ensures) ∙ not-false _ (e .if3 .left)
+
 returns-4 : tie.Need-returns-4
 returns-4 c =
     let r = c .before in
@@ -45,13 +50,15 @@ returns-4 c =
     let e = f .before in
     let args = e .before .before .before .before .before .before .args in
     let told = f .in-force .ensures in
-    let good = sym (e .before .before .before .good-decoder .ensures) ∙ not-false _ (e .if3 .left) in
-    does (call-done _ _ _ _ (omega arith) (fits (e .before)) good)
+    does (call-done _ _ _ _ (omega arith) (fits (e .before)) (good e))
     (r .run .ensures .answer ∙ ap (λ (m : ℕ). decoded m (args .d) (args .octets .now) .answer) told)
     (r .run .ensures .left ∙ ap (λ (m : ℕ). decoded m (args .d) (args .octets .now) .left) told)
 
 run-requires : tie.Need-run-requires
-run-requires c κs = let f = fits (c .before .before .before) in (few _ _ f, twice _ _ f)
+run-requires c κs =
+    let e = c .before .before in
+    let f = fits (e .before) in
+    (few _ _ f, (twice _ _ f, good e))
 
 pub decode-spec : {M : Type 1} → statement M
 decode-spec =

@@ -6,6 +6,7 @@ use borrow.Author.Tests.{not-true, not-false, eq-eqb, ne-eqb, lt-ltb, le-ltb}
 use Prim.Native.Nat.{ℕ, min}
 use lib.Dec.{eqb}
 use lib.ListN.{length}
+use Rattle.laws.specs.Both.{left-true, right-true}
 use Rattle.laws.specs.Outcome.{does}
 use Rattle.facts.specs.Lengths.{matched, few-pairs}
 use Rattle.facts.specs.Range.{none-bad-pair, some-bad-pair}
@@ -84,8 +85,15 @@ returns-5 c =
 
 join-all-requires : tie.Need-join-all-requires
 join-all-requires c κs =
-    let f = fits (e (c .before .before) .before) in
-    (few-pairs _ _ _ f, matched _ _ _ f)
+    let n = c .before in
+    let b = n .before in
+    let args = e b .before .before .before .before .before .args in
+    let low = allInRange (args .low .now) in
+    let high = allInRange (args .high .now) in
+    let f = fits (e b .before) in
+    let p = matched _ _ _ f in
+    let clean = sym (looked b) ∙ not-false _ (n .if4 .left) in
+    (few-pairs _ _ _ f, (p .0, (p .1, (good b, (left-true low high clean, right-true low high clean)))))
 
 pub join-spec : {M : Type 1} → statement M
 join-spec =

@@ -1,120 +1,113 @@
--- `decoder::join_all` meets its contract: what is left to do from here, from the past pairs as they are, gives the whole.
-use mathlib.Core.Path.{_≡_, refl, sym, ap, _∙_}
-use mathlib.Core.List.{List, _∷_, _++_}
-use Prim.Native.Nat.{_≤_, _-_, _+_, _*_, _<_, zero-le}
+-- `decoder::join_all` meets its contract: what was done of the pairs so far, and then a block of them, is what is done of so many more.
+use mathlib.Core.Path.{_≡_, refl, sym, _∙_}
+use Prim.Native.Nat.{ℕ, _≤_, _*_, _-_, _+_, zero-le}
 use native.Mathlib.Omega.{arith}
-use lib.IntN.{ℤ, pos}
-use lib.ListN.{length, take, drop, getD, length-set}
-use Rattle.laws.specs.Back.{back16}
-use Rattle.laws.specs.Turns.{put-pair}
-use Rattle.facts.specs.Overload.{Counted, none-counted, room-for-two}
+use lib.ListN.{length, take, drop, length-take}
+use lib.Seq.{take-all}
+use borrow.Rule.Slice.PartMut.{mid-len}
+use Rattle.laws.specs.Outcome.{Does, does}
+use Rattle.laws.specs.Blocks.{part-long, part-put}
+use Rattle.facts.specs.Range.{range-take, range-drop}
+use Rattle.facts.specs.Blocks.{done, joined-more, joined-next-good, joined-few}
 use Rattle.g722.specs.Arithmetic.{overloads}
 use Rattle.g722.specs.Steps.{joinedInFull, joinedOf, pairsAfter, joinedAfter, joined}
-use Rattle.g722.specs.declared.Pairs.{Pairs}
-use Rattle.decoder.proofs.Joining.{pair-joined, pairs-turn, samples-turn, pairs-end, samples-end}
-use Rattle.decoder.proofs.Joining.{pair-counted, all-counted}
 use Rattle.decoder.proofs.samples.join_all.Statement.{statement}
 use Rattle.decoder.proofs.samples.join_all.Tie as tie
 
 abbrev Inv-loop : tie.InvT-loop
-Inv-loop d low high samples₀ past₀ limited₀ i₀ i-end samples past limited i =
-    (i ≤ i-end)
-    × (i-end ≡ length low)
+Inv-loop low high samples₀ s₀ limited₀ at₀ samples s limited at =
+    (at ≤ length low)
     × (length samples ≡ length samples₀)
-    × (pairsAfter past (drop i low) (drop i high) ≡ pairsAfter past₀ low high)
-    × (take (2 * i) samples ++ joinedOf past (drop i low) (drop i high) ≡ joinedOf past₀ low high)
-    × Counted limited (overloads (joinedInFull past (drop i low) (drop i high))) (overloads (joinedInFull past₀ low high)) i
+    × Does (joined s₀ (take at low) (take at high)) (done limited s) (take (2 * at) samples)
 
 abbrev μ-loop : tie.MeasureT-loop
-μ-loop d low high samples₀ past₀ limited₀ i₀ i-end samples past limited i = i-end - i
+μ-loop low high samples₀ s₀ limited₀ at₀ samples s limited at = length low - at
 
 loop-holds : tie.Need-loop-holds Inv-loop μ-loop
-loop-holds c = (zero-le, refl, refl, refl, refl, none-counted _)
+unfolding joined joinedOf joinedInFull joinedAfter pairsAfter overloads
+loop-holds c = (zero-le, refl, record { answer = refl; left = refl })
 
--- a pair to join, and room for its two samples
-module _ (c : tie.In-loop Inv-loop μ-loop) where
+-- where a block ends, which is within the signals, and its samples within theirs
+module _ (l : tie.After-lesser Inv-loop μ-loop) where
+  abbrev lp : tie.At-loop Inv-loop μ-loop
+  lp = l .before .before
+
   abbrev start : tie.Start Inv-loop μ-loop
-  start = c .before .before .before
+  start = lp .before
 
-  in-low : c .before .loop .i < length (start .args .low .now)
-  in-low = omega arith
+  abbrev to : ℕ
+  to = lp .loop .at + l .lesser .result
 
-  in-high : c .before .loop .i < length (start .args .high .now)
-  in-high = omega (arith, start .pre .1 .0)
+  on : lp .loop .at ≤ to
+  on = omega arith
 
-  two : 2 * c .before .loop .i + 1 < length (c .before .loop .samples)
-  two = omega (arith, start .pre .1 .1)
+  within : to ≤ length (start .args .low .now)
+  within = omega (arith, l .lesser .ensures)
+
+  within-high : to ≤ length (start .args .high .now)
+  within-high = omega (arith, within, start .pre .1 .0)
+
+  room : 2 * to ≤ length (lp .loop .samples)
+  room = omega (arith, within, start .pre .1 .1 .0)
+
+  even : length (take (lp .loop .at) (start .args .high .now)) ≡ length (take (lp .loop .at) (start .args .low .now))
+  even =
+      let a = start .args in
+      omega (arith, start .pre .1 .0, length-take (lp .loop .at) (a .high .now), length-take (lp .loop .at) (a .low .now))
+
+join-block-requires : tie.Need-join-block-requires Inv-loop μ-loop
+join-block-requires c κs =
+    let l = c .before .before .before in
+    let at = lp l .loop .at in
+    let low = start l .args .low .now in
+    let high = start l .args .high .now in
+    let n = mid-len at (to l) low (within l) in
+    let m = mid-len at (to l) high (within-high l) in
+    let k = mid-len (2 * at) (2 * to l) (lp l .loop .samples) (room l) in
+    let g = start l .pre .1 .1 .1 in
+    let good =
+    joined-next-good _ (take at low) (take at high) (lp l .loop .inv .2) (g .0) (range-take at low (g .1 .0))
+    (range-take at high (g .1 .1)) in
+    let rl = range-take (to l - at) (drop at low) (range-drop at low (g .1 .0)) in
+    let rh = range-take (to l - at) (drop at high) (range-drop at high (g .1 .1)) in
+    (omega (arith, l .lesser .ensures, n), (omega (arith, n, m), (omega (arith, n, k), (good, (rl, rh)))))
+
+add-limited : tie.Need-add-limited Inv-loop μ-loop
+add-limited c =
+    let b = c .before .before .before in
+    let l = b .before .before .before .before in
+    let low = start l .args .low .now in
+    let high = start l .args .high .now in
+    let more = joined-more _ low high (on l) (even l) (lp l .loop .inv .2) (b .join-block .ensures) in
+    omega (arith, joined-few _ (take (to l) low) (take (to l) high) more, length-take (to l) low, start l .pre .0)
 
 loop-again : tie.Need-loop-again Inv-loop μ-loop
 loop-again c =
-    let k = c .before in
-    let n = k .before in
-    let t = n .before in
-    let j = t .before .before .before .before in
-    let r = j .before .before .before in
-    let q = r .before .before in
-    let inside = q .before .before .before .before in
-    let lp = inside .before in
-    let low = start inside .args .low .now in
-    let high = start inside .args .high .now in
-    let samples = lp .loop .samples in
-    let past = lp .loop .past in
-    let i = lp .loop .i in
-    let v = lp .loop .inv in
-    let rest = joinedOf (record { rl = k .row-kept .result; rh = c .row-kept2 .result }) (drop (i + 1) low) (drop (i + 1) high) in
-    let pair =
-    pair-joined past low high i
-    (back16 (getD low i (pos 0)) (q .before .row-arg .given))
-    (back16 (getD high i (pos 0)) (r .before .row-arg2 .given))
-    (q .row .ensures) (r .row2 .ensures) (j .join .ensures)
-    (back16 _ (t .before .struct-told .given .0 .1)) (back16 _ (t .struct-told2 .given .0 .1)) (n .changes .ensures)
-    (k .row-kept .ensures) (c .row-kept2 .ensures) in (
-      omega (arith, in-low inside),
-      v .1,
-      simp length-set (v .2),
-      ap (λ (p : Pairs). pairsAfter p (drop (i + 1) low) (drop (i + 1) high)) (pair .next)
-          ∙ sym (pairs-turn past low high i (in-low inside) (in-high inside))
-          ∙ v .3,
-      put-pair samples rest i _ _ (two inside)
-          ∙ (λ m. take (2 * i) samples ++ pair .first m ∷ pair .second m ∷ joinedOf (pair .next m) (drop (i + 1) low) (drop (i + 1) high))
-          ∙ ap (λ (l : List ℤ). take (2 * i) samples ++ l) (sym (samples-turn past low high i (in-low inside) (in-high inside)))
-          ∙ v .4,
-      pair-counted past low high i (in-low inside) (in-high inside) (v .5) (pair .count) (pair .next),
+    let b = c .before .before .before in
+    let l = b .before .before .before .before in
+    let twice : 2 * lp l .loop .at ≤ 2 * to l = omega arith in
+    let samples = lp l .loop .samples in
+    let y = b .join-block .last .1 .1 .1 .0 in
+    let same = b .join-block .kept .1 .1 .1 .0 in
+    let a = start l .args in
+    let more = joined-more _ (a .low .now) (a .high .now) (on l) (even l) (lp l .loop .inv .2) (b .join-block .ensures) in (
+      within l,
+      part-long twice samples y same ∙ lp l .loop .inv .1,
+      record { answer = more .answer; left = part-put twice samples y same (room l) ∙ more .left },
     )
 
--- the count has room for two more
-add-limited : tie.Need-add-limited Inv-loop μ-loop
-add-limited c =
-    let j = c .before .before .before .before .before in
-    let lp = j .before .before .before .before .before .before .before .before .before .before in
-    omega (arith, room-for-two _ _ (lp .loop .inv .5) (omega (arith, lp .before .before .pre .0)) (c .changes .ensures))
-
 same-length : tie.Need-same-length Inv-loop μ-loop
-same-length c = c .before .before .before .before .loop .inv .2
+same-length c = c .before .before .loop .inv .1
 
 returns : tie.Need-returns Inv-loop μ-loop
-unfolding joined joinedAfter
 returns c =
-    let lp = c .before .before .before .before in
+    let lp = c .before .before in
     let v = lp .loop .inv in
-    let s = lp .before .before in
-    let low = s .args .low .now in
-    let high = s .args .high .now in
-    let all : length low ≤ lp .loop .i = omega arith in
-    let full : length (lp .loop .samples) ≤ 2 * lp .loop .i = omega (arith, s .pre .1 .1) in
-    let past = sym (pairs-end (lp .loop .past) low high (lp .loop .i) all) ∙ v .3 in
-    let count = all-counted (lp .loop .past) low high (lp .loop .i) all (v .5) in
-    record {
-      answer =
-          c .done .ensures
-          ∙ λ j. record {
-            number = 0;
-            index = 0;
-            limited = count j;
-            next = record { low = s .args .d .low; high = s .args .d .high; past = past j };
-          };
-      left = sym (samples-end (lp .loop .past) low high (lp .loop .i) all (lp .loop .samples) full) ∙ v .4;
-    }
+    let s = lp .before in
+    let low = take-all (lp .loop .at) (s .args .low .now) (omega arith) in
+    let high = take-all (lp .loop .at) (s .args .high .now) (omega (arith, s .pre .1 .0)) in
+    let full = take-all (2 * lp .loop .at) (lp .loop .samples) (omega (arith, s .pre .1 .1 .0)) in
+    does (λ i. joined (s .args .d) (sym low i) (sym high i)) (c .done .ensures ∙ v .2 .answer) (sym full ∙ v .2 .left)
 
 pub join-all-spec : {M : Type 1} → statement M
 join-all-spec =
@@ -124,11 +117,6 @@ join-all-spec =
     μ-loop
     loop-holds
     (λ c. omega arith)
-    (λ c. omega arith)
-    (λ c κs. tt)
-    (λ c. omega arith)
-    (λ c. omega arith)
-    (λ c κs. tt)
     (λ c κs. tt)
     (λ c. omega arith)
     (λ c. omega arith)
@@ -136,12 +124,17 @@ join-all-spec =
     (λ c. omega arith)
     (λ c. omega arith)
     (λ c. omega arith)
-    (λ c. rw length-set (omega arith))
-    (λ c κs. tt)
+    (λ c. omega arith)
+    (λ c. omega arith)
+    (λ c. omega arith)
+    (λ c. omega arith)
+    (λ c. omega arith)
+    (λ c. omega arith)
+    (λ c. omega arith)
+    (λ c. omega arith)
+    (λ c. omega arith)
+    join-block-requires
     add-limited
-    (λ c κs. tt)
-    (λ c κs. tt)
-    (λ c. omega arith)
     (λ c. omega arith)
     loop-again
     (λ c κs. tt)

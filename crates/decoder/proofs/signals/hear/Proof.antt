@@ -1,6 +1,6 @@
 -- `decoder::hear` meets its contract: each way out is a case of the definition.
 use mathlib.Core.Path.{_≡_, refl, sym, ap, _∙_}
-use mathlib.Core.Bool.{false}
+use mathlib.Core.Bool.{true, false}
 use native.Mathlib.Omega.{arith}
 use borrow.Author.Needs.{needs}
 use borrow.Author.Tests.{not-true, not-false, lt-ltb, le-ltb}
@@ -8,6 +8,7 @@ use Prim.Native.Nat.{ℕ}
 use lib.ListN.{length}
 use Rattle.laws.specs.Outcome.{does}
 use Rattle.facts.specs.Lengths.{paired, few-octets}
+use Rattle.g722.specs.Records.{goodDecoder}
 use Rattle.g722.specs.Steps.{unpaired, heard}
 use Rattle.g722.specs.InSteps.{hear-1, hear-3, hear-2, hear-0}
 use Rattle.decoder.proofs.signals.hear.Statement.{statement}
@@ -39,6 +40,10 @@ returns-3 c =
     does (hear-2 _ _ _ _ _ (le-ltb 3 told (omega arith)) (fits (t .before)) broken)
     (c .refused3 .ensures) refl
 
+-- past the third
+good : (e : tie.Else3) → goodDecoder (e .before .before .before .before .before .before .args .d) ≡ true
+good e = sym (e .before .before .before .good-decoder .ensures) ∙ not-false _ (e .if3 .left)
+
 returns-4 : tie.Need-returns-4
 unfolding heard
 returns-4 c =
@@ -48,15 +53,16 @@ returns-4 c =
     let args = e .before .before .before .before .before .before .args in
     let octets = args .octets .now in
     let told = f .in-force .ensures in
-    let good = sym (e .before .before .before .good-decoder .ensures) ∙ not-false _ (e .if3 .left) in
-    does (hear-0 _ _ _ _ _ (le-ltb 3 (args .told) (omega arith)) (fits (e .before)) good)
+    does (hear-0 _ _ _ _ _ (le-ltb 3 (args .told) (omega arith)) (fits (e .before)) (good e))
     (r .hear-all .ensures .answer ∙ ap (λ (m : ℕ). heard m (args .d) octets .answer) told)
     (r .hear-all .ensures .left ∙ ap (λ (m : ℕ). heard m (args .d) octets .left) told)
 
 hear-all-requires : tie.Need-hear-all-requires
 hear-all-requires c κs =
-    let f = fits (c .before .before .before .before) in
-    (few-octets _ _ _ f, paired _ _ _ f)
+    let e = c .before .before .before in
+    let f = fits (e .before) in
+    let p = paired _ _ _ f in
+    (few-octets _ _ _ f, (p .0, (p .1, good e)))
 
 pub hear-spec : {M : Type 1} → statement M
 hear-spec =

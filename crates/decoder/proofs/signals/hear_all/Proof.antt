@@ -1,95 +1,111 @@
--- `decoder::hear_all` meets its contract: each band goes through the octets by one law.
-use mathlib.Core.Path.{_≡_, refl, _∙_}
-use Prim.Native.Nat.{_≤_, _+_, _-_, _*_, _<_, _^_, zero-le}
+-- `decoder::hear_all` meets its contract: what was done of the octets so far, and then a block of them, is what is done of so many more.
+use mathlib.Core.Path.{_≡_, refl, sym, ap, _∙_}
+use Prim.Native.Nat.{ℕ, _≤_, _-_, _+_, zero-le}
 use native.Mathlib.Omega.{arith}
-use lib.ListN.{length}
-use Rattle.laws.specs.Back.{back16}
-use Rattle.facts.specs.Overload.{Counted, none-counted, room-for-two}
-use Rattle.g722.specs.Decoding.{ylOf, yhOf, rlOf, rhOf}
-use Rattle.g722.specs.Steps.{lowNext, highNext, ylsOf, yhsOf, rlsOf, rhsOf, heardAfter, heard}
-use Rattle.decoder.specs.Step.{lowHeard, highHeard}
-use Rattle.decoder.proofs.Hearing.{SoFar, begun, one-more, band-ended, signals-ended}
-use Rattle.decoder.proofs.Hearing.{bothLeft, both-counted, all-counted}
+use lib.ListN.{length, take, length-take}
+use lib.Seq.{take-all}
+use borrow.Rule.Slice.PartMut.{mid-len}
+use Rattle.laws.specs.Outcome.{Does, does}
+use Rattle.laws.specs.Blocks.{part-long, part-put}
+use Rattle.facts.specs.Blocks.{done, heard-more, heard-next-good, heard-few}
+use Rattle.g722.specs.Arithmetic.{overloads}
+use Rattle.g722.specs.Steps.{signalsOf, bandAfter, ylsOf, yhsOf, rlsOf, rhsOf, heardAfter, heard}
 use Rattle.decoder.proofs.signals.hear_all.Statement.{statement}
 use Rattle.decoder.proofs.signals.hear_all.Tie as tie
 
 abbrev Inv-loop : tie.InvT-loop
-Inv-loop mode d octets low₀ high₀ l₀ h₀ limited₀ i₀ i-end low high l h limited i =
-    (i ≤ i-end)
-    × (i-end ≡ length octets)
-    × SoFar (ylOf mode) lowNext l₀ octets low₀ l low i
-    × SoFar yhOf highNext h₀ octets high₀ h high i
-    × Counted limited (bothLeft mode octets l h i) (bothLeft mode octets l₀ h₀ 0) i
+Inv-loop mode octets low₀ high₀ s₀ limited₀ at₀ low high s limited at =
+    (at ≤ length octets)
+    × (length low ≡ length low₀)
+    × (length high ≡ length high₀)
+    × Does (heard mode s₀ (take at octets)) (done limited s) (take at low, take at high)
 
 abbrev μ-loop : tie.MeasureT-loop
-μ-loop mode d octets low₀ high₀ l₀ h₀ limited₀ i₀ i-end low high l h limited i = i-end - i
+μ-loop mode octets low₀ high₀ s₀ limited₀ at₀ low high s limited at = length octets - at
 
 loop-holds : tie.Need-loop-holds Inv-loop μ-loop
-loop-holds c = (zero-le, refl, begun _ _ _ _ _, begun _ _ _ _ _, none-counted _)
+unfolding heard heardAfter ylsOf yhsOf rlsOf rhsOf signalsOf bandAfter overloads
+loop-holds c = (zero-le, refl, refl, record { answer = refl; left = refl })
 
--- an octet has room for its two signals, and their bytes are few enough for an index of them
-module _ (c : tie.After-struct-told2 Inv-loop μ-loop) where
-  abbrev at : tie.At-loop Inv-loop μ-loop
-  at = c .before .before .before .before .before .before .before .before .before
+-- where a block ends, which is within the octets and both signals
+module _ (l : tie.After-lesser Inv-loop μ-loop) where
+  abbrev lp : tie.At-loop Inv-loop μ-loop
+  lp = l .before .before
 
   abbrev start : tie.Start Inv-loop μ-loop
-  start = at .before .before .before .before
+  start = lp .before .before
 
-  low-room : at .loop .i < length (at .loop .low)
-  low-room = omega (arith, at .loop .inv .2 .long, start .pre .1 .0)
+  abbrev to : ℕ
+  to = lp .loop .at + l .lesser .result
 
-  high-room : at .loop .i < length (at .loop .high)
-  high-room = omega (arith, at .loop .inv .3 .long, start .pre .1 .1)
+  on : lp .loop .at ≤ to
+  on = omega arith
 
-  few : at .loop .i * 2 < 2 ^ 63
-  few = omega (arith, start .good .1 .1 .1 .0 .1, start .pre .1 .0)
+  within : to ≤ length (start .args .octets .now)
+  within = omega (arith, l .lesser .ensures)
+
+  low-room : to ≤ length (lp .loop .low)
+  low-room = omega (arith, within, start .pre .1 .0)
+
+  high-room : to ≤ length (lp .loop .high)
+  high-room = omega (arith, within, start .pre .1 .1 .0)
+
+hear-block-requires : tie.Need-hear-block-requires Inv-loop μ-loop
+hear-block-requires c κs =
+    let l = c .before .before .before in
+    let at = lp l .loop .at in
+    let octets = start l .args .octets .now in
+    let n = mid-len at (to l) octets (within l) in
+    let low = mid-len at (to l) (lp l .loop .low) (low-room l) in
+    let high = mid-len at (to l) (lp l .loop .high) (high-room l) in
+    let good = heard-next-good _ _ (take at octets) (lp l .loop .inv .3) (start l .pre .1 .1 .1) in
+    (omega (arith, l .lesser .ensures, n), (omega (arith, n, low), (omega (arith, n, high), good)))
+
+add-limited : tie.Need-add-limited Inv-loop μ-loop
+add-limited c =
+    let b = c .before .before .before .before in
+    let l = b .before .before .before .before in
+    let octets = start l .args .octets .now in
+    let more = heard-more _ _ octets (on l) (lp l .loop .inv .3) (b .hear-block .ensures) in
+    omega (arith, heard-few _ _ (take (to l) octets) more, length-take (to l) octets, start l .pre .0)
 
 loop-again : tie.Need-loop-again Inv-loop μ-loop
-unfolding lowHeard highHeard
 loop-again c =
-    let n = c .before .before in
-    let t2 = n .before in
-    let hh = t2 .before .before .before .before in
-    let lh = hh .before .before in
-    let v = at t2 .loop .inv in (
-      omega arith,
-      v .1,
-      one-more _ _ _ _ _ (v .2) (omega arith) (low-room t2) (lh .low-heard .ensures) (back16 _ (t2 .before .struct-told .given .0 .1)),
-      one-more _ _ _ _ _ (v .3) (omega arith) (high-room t2) (hh .high-heard .ensures) (back16 _ (t2 .struct-told2 .given .0 .1)),
-      both-counted _ _ _ _ (omega arith) (v .4) (lh .low-heard .ensures) (hh .high-heard .ensures) (n .changes .ensures),
+    let b = c .before .before .before .before in
+    let l = b .before .before .before .before in
+    let v = lp l .loop .inv in
+    let low = lp l .loop .low in
+    let high = lp l .loop .high in
+    let x = b .hear-block .last .1 .1 .1 .0 in
+    let y = b .hear-block .last .1 .1 .1 .1 .0 in
+    let k = b .hear-block .kept .1 .1 .1 .0 in
+    let m = b .hear-block .kept .1 .1 .1 .1 .0 in
+    let more = heard-more _ _ (start l .args .octets .now) (on l) (v .3) (b .hear-block .ensures) in (
+      within l,
+      part-long (on l) low x k ∙ v .1,
+      part-long (on l) high y m ∙ v .2,
+      record {
+        answer = more .answer;
+        left = (λ i. (part-put (on l) low x k (low-room l) i, part-put (on l) high y m (high-room l) i)) ∙ more .left;
+      },
     )
 
--- the count has room for two more
-more-counted : (c : tie.After-changes Inv-loop μ-loop) → at (c .before) .loop .limited + c .changes .result < 2 ^ 32
-more-counted c =
-    let a = at (c .before) .loop in
-    room-for-two _ _ (a .inv .4) (omega (arith, start (c .before) .pre .0)) (c .changes .ensures)
-
 same-length : tie.Need-same-length Inv-loop μ-loop
-same-length c = c .before .before .before .loop .inv .2 .long
+same-length c = c .before .before .loop .inv .1
 
 same-length-2 : tie.Need-same-length-2 Inv-loop μ-loop
-same-length-2 c = c .before .before .before .loop .inv .3 .long
+same-length-2 c = c .before .before .loop .inv .2
 
 returns : tie.Need-returns Inv-loop μ-loop
-unfolding heard heardAfter ylsOf yhsOf rlsOf rhsOf rlOf rhOf
 returns c =
-    let l = c .before .before .before .loop in
-    let s = c .before .before .before .before .before .before .before in
-    let octets = s .args .octets .now in
-    let v = l .inv in
-    let all : length octets ≤ l .i = omega arith in
-    let low = band-ended _ _ _ _ _ (v .2) all in
-    let high = band-ended _ _ _ _ _ (v .3) all in
-    let count = all-counted _ octets _ _ all (v .4) in
-    let rl = signals-ended _ _ _ _ _ (v .2) all (omega (arith, v .2 .long, s .pre .1 .0)) in
-    let rh = signals-ended _ _ _ _ _ (v .3) all (omega (arith, v .3 .long, s .pre .1 .1)) in
-    record {
-      answer =
-          c .done .ensures
-          ∙ λ j. record { number = 0; index = 0; limited = count j; next = record { low = low j; high = high j; past = s .args .d .past } };
-      left = λ j. (rl j, rh j);
-    }
+    let lp = c .before .before in
+    let at = lp .loop .at in
+    let v = lp .loop .inv in
+    let s = lp .before .before in
+    let all = take-all at (s .args .octets .now) (omega arith) in
+    let low = take-all at (lp .loop .low) (omega (arith, s .pre .1 .0)) in
+    let high = take-all at (lp .loop .high) (omega (arith, s .pre .1 .1 .0)) in
+    does (ap (heard (s .args .mode) (s .args .d)) (sym all)) (c .done .ensures ∙ v .3 .answer) ((λ i. (sym low i, sym high i)) ∙ v .3 .left)
 
 pub hear-all-spec : {M : Type 1} → statement M
 hear-all-spec =
@@ -101,14 +117,19 @@ hear-all-spec =
     (λ c. omega arith)
     (λ c κs. tt)
     (λ c. omega arith)
-    (λ c κs. tt)
-    (λ c. omega (arith, few c))
-    low-room
-    (λ c. omega (arith, few c))
-    high-room
-    (λ c κs. tt)
-    (λ c. omega (arith, more-counted c))
-    (λ c. omega (arith, few (c .before .before .before)))
+    (λ c. omega arith)
+    (λ c. omega arith)
+    (λ c. omega arith)
+    (λ c. omega arith)
+    (λ c. omega arith)
+    (λ c. omega arith)
+    (λ c. omega arith)
+    (λ c. omega arith)
+    (λ c. omega arith)
+    (λ c. omega arith)
+    (λ c. omega arith)
+    hear-block-requires
+    add-limited
     (λ c. omega arith)
     loop-again
     (λ c κs. tt)

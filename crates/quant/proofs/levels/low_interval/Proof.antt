@@ -1,67 +1,58 @@
--- `low_interval` meets its contract. The invariant: what is counted from place i on, and i, make the whole count.
-use mathlib.Core.Path.{_∙_}
-use Prim.Native.Nat.{_-_}
-use native.Mathlib.Omega.{arith}
-use mir.Syntax.{w16}
-use mir.Val.{toZ, ofZ}
+-- `quant::low_interval` meets its contract: where a level is not above the size, the count goes on behind it.
+use mathlib.Core.Path.{sym, ap, _∙_}
+use Prim.Native.Nat.{ℕ, _+_, zero-le}
+use native.Mathlib.Nat.{zero-add}
+use lib.Dec.{lit<}
 use mir.Facts.{toZ-ofZ}
-use Rattle.laws.specs.Back.{got32}
 use Rattle.g722.specs.Tables.{q6}
-use Rattle.g722.specs.Quantise.{level}
-use Rattle.tables.specs.Entries.{q6-small}
-use Rattle.quant.proofs.Laws.{as-i32, i32-read}
-use Rattle.quant.proofs.Counting.{Counted, end, on, over}
+use Rattle.quant.proofs.Counting.{behind}
 use Rattle.quant.proofs.levels.low_interval.Statement.{statement}
 use Rattle.quant.proofs.levels.low_interval.Tie as tie
 
-abbrev Inv-loop : tie.InvT-loop
-Inv-loop size scale q s i₀ i = Counted size (toZ w16 scale) i
-
-abbrev μ-loop : tie.MeasureT-loop
-μ-loop size scale q s i₀ i = 29 - i
-
-loop-again : tie.Need-loop-again Inv-loop μ-loop
-unfolding q6
-loop-again c =
-    let b = c .before .before in
-    let s = b .before .before in
-    let t = rw (i32-read (s .fits .size), got32 (c .before .level) ∙ c .before .level .ensures) at (c .if2 .left) in
-    on (s .args .size) (b .before .loop .i) (b .if1 .left) (toZ w16 (ofZ w16 (s .args .scale))) t (b .before .loop .inv)
-
-returns : tie.Need-returns Inv-loop μ-loop
+returns : tie.Need-returns
 returns c =
-    let s = c .before .before in
-    rw (← toZ-ofZ (s .fits .scale))
-    (end (s .args .size) (c .before .loop .i) (c .if1 .taken) (toZ w16 (ofZ w16 (s .args .scale))) (c .before .loop .inv))
+    let s = c .before .before .before .before .before in
+    rw (toZ-ofZ (s .fits .scale)) at (c .search .ensures) ∙ ap (λ (n : ℕ). 1 + n) (zero-add _)
 
-returns-2 : tie.Need-returns-2 Inv-loop μ-loop
+returns-2 : tie.Need-returns-2
 unfolding q6
 returns-2 c =
     let b = c .before .before in
-    let s = b .before .before in
-    let t = rw (i32-read (s .fits .size), got32 (c .before .level) ∙ c .before .level .ensures) at (c .if2 .taken) in
-    rw (← toZ-ofZ (s .fits .scale))
-    (over (s .args .size) (b .before .loop .i) (b .if1 .left) (toZ w16 (ofZ w16 (s .args .scale))) t (b .before .loop .inv))
+    let s = b .before .before .before in
+    let e = rw (toZ-ofZ (s .fits .scale)) at (sym (b .below2 .ensures) ∙ c .before .if2 .left) in
+    rw (toZ-ofZ (s .fits .scale)) at (c .search2 .ensures) ∙ behind (s .args .size) 5 (lit< tt) (s .args .scale) e
 
-level-requires : tie.Need-level-requires Inv-loop μ-loop
+returns-3 : tie.Need-returns-3
 unfolding q6
-level-requires c κs = q6-small (c .before .loop .i)
+returns-3 c =
+    let b = c .before .before .before .before in
+    let s = b .before in
+    let e = rw (toZ-ofZ (s .fits .scale)) at (sym (b .below .ensures) ∙ c .before .before .before .if1 .left) in
+    rw (toZ-ofZ (s .fits .scale)) at (c .search3 .ensures) ∙ behind (s .args .size) 10 (lit< tt) (s .args .scale) e
+
+returns-4 : tie.Need-returns-4
+unfolding q6
+returns-4 c =
+    let b = c .before .before in
+    let s = b .before .before .before in
+    let e = rw (toZ-ofZ (s .fits .scale)) at (sym (b .below3 .ensures) ∙ c .before .if3 .left) in
+    rw (toZ-ofZ (s .fits .scale)) at (c .search4 .ensures) ∙ behind (s .args .size) 19 (lit< tt) (s .args .scale) e
 
 pub low-interval-spec : {M : Type 1} → statement M
 low-interval-spec =
     tie.close
     (tie.spec
-    Inv-loop
-    μ-loop
-    (λ c. as-i32 (c .fits .size))
-    (λ c. omega arith)
-    (λ c. omega arith)
-    (λ c. omega arith)
-    level-requires
-    (λ c. omega arith)
-    (λ c. omega arith)
-    (λ c. omega arith)
-    (λ c. omega arith)
-    loop-again
+    (λ c. lit< tt)
+    (λ c κs. lit< tt)
+    (λ c. lit< tt)
+    (λ c κs. lit< tt)
+    (λ c κs. zero-le)
     returns
-    returns-2)
+    (λ c κs. lit< tt)
+    returns-2
+    (λ c. lit< tt)
+    (λ c κs. lit< tt)
+    (λ c κs. lit< tt)
+    returns-3
+    (λ c κs. lit< tt)
+    returns-4)

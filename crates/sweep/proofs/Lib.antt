@@ -1,0 +1,3 @@
+-- What the proofs of `sweep` share, and the table of answers.
+pub mod Loop
+pub mod Unique

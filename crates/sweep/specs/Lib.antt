@@ -1,0 +1,3 @@
+-- A band over a block, and its turns.
+pub mod Block
+pub mod Turn
