@@ -1,16 +1,14 @@
 -- The recursive part in 32 bits against the definitions: which of their stops are idle within the bounds of a good record.
 -- Assumes nothing.
-use mathlib.Core.Path.{_≡_, sym, ap, _∙_}
+use mathlib.Core.Path.{_≡_, refl, sym, ap, _∙_}
 use mathlib.Core.Bool.{Bool, true, false, cond, not}
-use Prim.Native.Nat.{ℕ, zero, suc, _+_, _*_, _^_, _≤_, _<_}
+use Prim.Native.Nat.{ℕ, zero, suc, _+_, _*_, _/_, _^_, _≤_, _<_}
 use native.Mathlib.Nat.{div-add-mod', mul-le-mul-left}
 use native.Mathlib.Omega.{arith}
-use lib.Dec.{T, eqb, eqb→eq}
 use lib.IntN.{ℤ, pos, negsuc, negℤ, natAbs, _+ℤ_, _-ℤ_, _*ℤ_}
 use lib.Signed.{mag, ltZ, shrZ, _≤ℤ_}
-use Rattle.laws.specs.Every.{below, below-at}
 use Rattle.laws.specs.Both.{left-true, right-true}
-use Rattle.laws.specs.Order.{up, dn, zarith, add-read, sub-read, sizes, by-test, up-neg, dn-neg}
+use Rattle.laws.specs.Order.{up, dn, zarith, same, add-read, sub-read, sizes, by-test, up-neg, dn-neg}
 use Rattle.laws.specs.Clamp.{clamp, clamp-id, clamp-low, clamp-mid, clamp-high, clamp-within}
 use Rattle.laws.specs.Size.{abs-add, abs-sub, abs-mul, abs-neg}
 use Rattle.g722.specs.Arithmetic.{neg, stop, add, sub, mul, negative, sameSign, within}
@@ -112,45 +110,81 @@ filtep-is w f =
 
 -- ---- UPPOL2 and UPPOL1
 
-abbrev eqZ : ℤ → ℤ → Bool
-eqZ (pos a) (pos b) = eqb a b
-eqZ (pos a) (negsuc b) = false
-eqZ (negsuc a) (pos b) = false
-eqZ (negsuc a) (negsuc b) = eqb a b
-
-eqZ-is : (a b : ℤ) → T (eqZ a b) → a ≡ b
-eqZ-is (pos a) (pos b) t = ap pos (eqb→eq a b t)
-eqZ-is (pos a) (negsuc b) t = absurd t
-eqZ-is (negsuc a) (pos b) t = absurd t
-eqZ-is (negsuc a) (negsuc b) t = ap negsuc (eqb→eq a b t)
-
 unfoldable pub turnedBy : Bool → ℤ → ℤ
 turnedBy t a1 = shrZ (cond t (sub (pos 0) (four a1)) (four a1)) 128
 
-abbrev shortBy : Bool → ℤ → ℤ
-shortBy t a1 = clamp (neg 256) (pos 255) (shrZ (cond t (negℤ a1) a1) 32)
+abbrev fourfold : ℤ → ℤ
+fourfold z = z +ℤ z +ℤ (z +ℤ z)
 
--- every coefficient, one by one
-above : (t : Bool) → T (below 27649 (λ (n : ℕ). eqZ (shortBy t (pos n)) (turnedBy t (pos n))))
-unfolding turnedBy four sub add clamp
-above true = tt
-above false = tt
+four-is : (a : ℤ) → four a ≡ stop (fourfold a)
+unfolding four add
+four-is a = double (a +ℤ a)
 
-under : (t : Bool) → T (below 27649 (λ (n : ℕ). eqZ (shortBy t (negsuc n)) (turnedBy t (negsuc n))))
-unfolding turnedBy four sub add clamp
-under true = tt
-under false = tt
+shifted : (z : ℤ) → shrZ (fourfold z) 128 ≡ shrZ z 32
+shifted (pos n) = ap pos (omega arith)
+shifted (negsuc n) = ap negsuc (omega arith)
 
-pub turned-is : (t : Bool) (a1 : ℤ) → natAbs a1 ≤ 27648 → clamp (neg 256) (pos 255) (shrZ (cond t (negℤ a1) a1) 32) ≡ turnedBy t a1
-turned-is t (pos n) h =
-    eqZ-is _ _ (below-at 27649 (λ (m : ℕ). eqZ (shortBy t (pos m)) (turnedBy t (pos m))) (above t) n (omega arith))
-turned-is t (negsuc n) h =
-    eqZ-is _ _ (below-at 27649 (λ (m : ℕ). eqZ (shortBy t (negsuc m)) (turnedBy t (negsuc m))) (under t) n (omega arith))
+-- the fourfold stopped at 16 bits and shifted by seven, or the number itself shifted by five and stopped at nine
+short-is : (z : ℤ) → shrZ (stop (fourfold z)) 128 ≡ clamp (neg 256) (pos 255) (shrZ z 32)
+short-is (pos n) =
+    by-test (ltZ (pos 32767) (fourfold (pos n)))
+    (λ f. rw (clamp-high (neg 32768) (pos 32767) (fourfold (pos n)) refl f)
+    (sym (clamp-high (neg 256) (pos 255) (pos (n / 32)) refl (omega (zarith, f)))))
+    (λ f. rw (
+      clamp-mid (neg 32768) (pos 32767) (fourfold (pos n)) refl f,
+      clamp-mid (neg 256) (pos 255) (pos (n / 32)) refl (omega (zarith, f)),
+    )
+    (shifted (pos n)))
+short-is (negsuc n) =
+    by-test (ltZ (fourfold (negsuc n)) (neg 32768))
+    (λ e. rw (clamp-low (neg 32768) (pos 32767) (fourfold (negsuc n)) e)
+    (sym (clamp-low (neg 256) (pos 255) (negsuc (n / 32)) (omega (zarith, e)))))
+    (λ e. rw (
+      clamp-mid (neg 32768) (pos 32767) (fourfold (negsuc n)) e refl,
+      clamp-mid (neg 256) (pos 255) (negsuc (n / 32)) (omega (zarith, e)) refl,
+    )
+    (shifted (negsuc n)))
 
-pub turned-abs : (t : Bool) (a1 : ℤ) → natAbs a1 ≤ 27648 → natAbs (turnedBy t a1) ≤ 256
-turned-abs t a1 h =
-    let w = clamp-within (neg 256) (pos 255) (shrZ (cond t (negℤ a1) a1) 32) (omega zarith) in
-    rw (sym (turned-is t a1 h)) (abs-from (shortBy t a1) 256 (w .0) (omega (zarith, w .1)))
+-- negated after a stop or before it: behind the shift there is no difference
+negated : (f : ℤ) → shrZ (stop (pos 0 -ℤ stop f)) 128 ≡ shrZ (stop (pos 0 -ℤ f)) 128
+unfolding clamp
+negated f =
+    let r = sub-read (pos 0) f in
+    let g = pos 0 -ℤ f in
+    by-test (ltZ f (neg 32768))
+    (λ e. rw (clamp-low (neg 32768) (pos 32767) f e, clamp-high (neg 32768) (pos 32767) g (omega (zarith, r, e)) (omega (zarith, r, e))))
+    (λ e. by-test (ltZ (pos 32767) f)
+    (λ h. let k : stop g ≡ neg 32768 = by-test (ltZ g (neg 32768)) (clamp-low (neg 32768) (pos 32767) g)
+    (λ l. clamp-mid (neg 32768) (pos 32767) g l (omega (zarith, r, h)) ∙ same g (neg 32768) (omega (zarith, r, h, l))) in
+    rw (clamp-high (neg 32768) (pos 32767) f e h, k))
+    (λ h. rw (clamp-mid (neg 32768) (pos 32767) f e h)))
+
+minus-fourfold : (a : ℤ) → pos 0 -ℤ fourfold a ≡ fourfold (negℤ a)
+minus-fourfold a =
+    let b = negℤ a in
+    omega (
+      zarith,
+      sub-read (pos 0) (fourfold a),
+      add-read a a,
+      add-read (a +ℤ a) (a +ℤ a),
+      add-read b b,
+      add-read (b +ℤ b) (b +ℤ b),
+      up-neg a,
+      dn-neg a,
+    )
+
+pub turned-is : (t : Bool) (a1 : ℤ) → clamp (neg 256) (pos 255) (shrZ (cond t (negℤ a1) a1) 32) ≡ turnedBy t a1
+unfolding turnedBy sub
+turned-is true a1 =
+    sym (ap (λ (z : ℤ). shrZ (stop (pos 0 -ℤ z)) 128) (four-is a1) ∙ negated (fourfold a1)
+    ∙ ap (λ (z : ℤ). shrZ (stop z) 128) (minus-fourfold a1) ∙ short-is (negℤ a1))
+turned-is false a1 = sym (ap (λ (z : ℤ). shrZ z 128) (four-is a1) ∙ short-is a1)
+
+pub turned-abs : (t : Bool) (a1 : ℤ) → natAbs (turnedBy t a1) ≤ 256
+turned-abs t a1 =
+    let z = shrZ (cond t (negℤ a1) a1) 32 in
+    let w = clamp-within (neg 256) (pos 255) z (omega zarith) in
+    rw (sym (turned-is t a1)) (abs-from (clamp (neg 256) (pos 255) z) 256 (w .0) (omega (zarith, w .1)))
 
 unfoldable pub secondOf : Bool → Bool → ℤ → ℤ → ℤ
 secondOf one two a1 a2 = clamp (neg 12288) (pos 12288) (add (add (turnedBy one a1) (cond two (pos 128) (neg 128))) (mul a2 (pos 32512)))
@@ -171,7 +205,7 @@ module _ (one two : Bool) (a1 a2 : ℤ) (h : natAbs a1 ≤ 27648) (k : natAbs a2
       let t = turnedBy one a1 in
       let c = cond two (pos 128) (neg 128) in
       let m = shrZ (a2 *ℤ pos 32512) 32768 in
-      let ht = turned-abs one a1 h in
+      let ht = turned-abs one a1 in
       let hc = step-abs two 128 in
       let e : mul a2 (pos 32512) ≡ m = mul-id a2 (pos 32512) (omega arith) (omega arith) in
       sym (ap (clamp (neg 12288) (pos 12288)) (

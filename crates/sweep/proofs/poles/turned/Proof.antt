@@ -31,10 +31,10 @@ is c =
       toZ-ofZ (s .fits .a1),
       zero-less (s .args .a1),
     )
-    (turned-is (s .args .t) (s .args .a1) (s .pre))
+    (turned-is (s .args .t) (s .args .a1))
 
 returns : tie.Need-returns
-returns c = let s = c .before .before in (is c, rw (is c) (turned-abs (s .args .t) (s .args .a1) (s .pre)))
+returns c = let s = c .before .before in (is c, rw (is c) (turned-abs (s .args .t) (s .args .a1)))
 
 pub turned-spec : {M : Type 1} → statement M
 turned-spec = tie.close (tie.spec sub-choose (λ c κs. tt) (λ c κs. tt) returns)
