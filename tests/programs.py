@@ -1,5 +1,7 @@
-"""Runs the proved programs and the second codec's, each within a time limit, and compares what they write."""
+"""Runs the proved programs, the two steps by the archive's calls, and the second codec's programs, each within a time limit, and compares
+what they write."""
 import collections
+import functools
 import os
 import pathlib
 import re
@@ -26,6 +28,26 @@ def run(words, given):
 
 def ours(program, *words, given=b""):
     return run(command(program, *words), given)
+
+
+@functools.cache
+def steps_program():
+    """Builds rust/src/bin/steps.rs over the archive in the folder ZELCANDRY_DIST, or over one that ./build makes; its path, or None where
+    this machine cannot have a compiler for x86-64."""
+    dist = os.path.abspath(os.environ.get("ZELCANDRY_DIST") or f"{TOP}/target/dist")
+    makers = [] if os.environ.get("ZELCANDRY_DIST") else [[f"{TOP}/build", dist]]
+    for words in makers + [[f"{TOP}/native", "program", f"{TOP}/rust", "steps"]]:
+        done = subprocess.run(words, capture_output=True, text=True, env={**os.environ, "ZELCANDRY_DIST": dist}, check=False)
+        if done.returncode == 3 and words not in makers:
+            return None
+        if done.returncode:
+            sys.exit(f"{' '.join(words)}: {done.stdout}{done.stderr}")
+    return done.stdout.strip()
+
+
+def steps(step, *words, given=b""):
+    """A step of decoding, `hear` or `join`, by the calls of the archive."""
+    return run(["timeout", str(SECONDS), f"{TOP}/native", "run", steps_program(), step, *words], given)
 
 
 def second(program, *words, given=b""):

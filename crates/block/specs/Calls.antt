@@ -8,7 +8,8 @@ use lib.ListN.{length, getD, take, drop}
 use Rattle.laws.specs.Outcome.{Outcome}
 use Rattle.g722.specs.declared.Moved.{Moved}
 use Rattle.block.specs.Check.{check}
-use Rattle.block.specs.Layout.{twoAt, fourAt, blockOf}
+use Rattle.big_endian.specs.Numbers.{twoAt, fourAt}
+use Rattle.block.specs.Layout.{blockOf}
 use Rattle.block.specs.declared.BlockRead.{BlockRead}
 
 unfoldable pub between : ℕ → ℕ → ℕ → Bool

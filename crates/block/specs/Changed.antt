@@ -14,7 +14,8 @@ use borrow.Author.Tests.{ltb-true, ltb-false, eqb-true, eqb-false}
 use Rattle.laws.specs.Order.{by-test}
 use Rattle.block.specs.Xor.{xor-twice}
 use Rattle.block.specs.Check.{byteStep, checkFrom, check}
-use Rattle.block.specs.Layout.{twoBytes, fourBytes, twoAt, body, blockOf}
+use Rattle.big_endian.specs.Numbers.{twoBytes, fourBytes, twoAt}
+use Rattle.block.specs.Layout.{body, blockOf}
 use Rattle.block.specs.Calls.{allowed, refused, readCall}
 use Rattle.block.specs.Formed.{allowed-bounds}
 use Rattle.block.specs.Numbers.{read-7}

@@ -11,7 +11,7 @@ use lib.Dec.{eqb, leb}
 use lib.ListN.{length, getD, take, drop, length-drop}
 use lib.Seq.{length-take-le, getD-take, getD-drop}
 use borrow.Author.Tests.{eq-eqb, eqb-true, leb-true, le-leb}
-use Rattle.block.specs.Layout.{twoAt}
+use Rattle.big_endian.specs.Numbers.{twoAt}
 use Rattle.block.specs.Calls.{between, allowed, allZero, wellFormed}
 
 -- ---- a mode and a count

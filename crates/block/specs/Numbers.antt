@@ -10,7 +10,8 @@ use lib.ListN.{length, getD, take}
 use borrow.Author.Tests.{eq-eqb, ne-eqb, eqb-true}
 use Rattle.laws.specs.Order.{by-test}
 use Rattle.block.specs.Check.{check}
-use Rattle.block.specs.Layout.{twoAt, fourAt, blockOf}
+use Rattle.big_endian.specs.Numbers.{twoAt, fourAt}
+use Rattle.block.specs.Layout.{blockOf}
 use Rattle.block.specs.Calls.{allowed, notWritten, writeCall, wellFormed, refused, readCall}
 use Rattle.block.specs.Formed.{Allowed, allowed-bounds, allowed-within, Formed, formed-bytes, formed-within}
 

@@ -3,25 +3,17 @@
 use mathlib.Core.Path.{_≡_, refl, ap, _∙_}
 use mathlib.Core.Bool.{true}
 use mathlib.Core.List.{List, _++_, append-assoc}
-use Prim.Native.Nat.{ℕ, zero, suc, _+_, _-_, _*_, _/_, _%_, _≤_, _<_}
+use Prim.Native.Nat.{ℕ, zero, suc, _+_, _-_, _/_, _%_, _≤_, _<_}
 use native.Mathlib.Omega.{arith}
 use lib.ListN.{length, getD, take, drop, replicate, length-append, length-replicate}
 use lib.Seq.{take-at, drop-at, drop-drop, getD-append-add}
-use lib.Pow.{shr-shr}
 use borrow.Author.Tests.{eq-eqb}
 use Rattle.block.specs.Check.{check}
-use Rattle.block.specs.Layout.{twoBytes, twoAt, fourAt, body, blockOf}
+use Rattle.big_endian.specs.Numbers.{twoBytes, twoAt, fourAt, two-back, four-back}
+use Rattle.block.specs.Layout.{body, blockOf}
 use Rattle.block.specs.Calls.{allowed, allZero, wellFormed, readCall}
 use Rattle.block.specs.Formed.{allowed-bounds}
 use Rattle.block.specs.Steps.{check-below}
-
--- a number from its bytes
-spelt : (n a b c : ℕ) → n / 256 ≡ a → a / 256 ≡ b → b / 256 ≡ c → c < 256
-    → (c % 256 * 256 + b % 256) * 65536 + (a % 256 * 256 + n % 256) ≡ n
-spelt n a b c p q r h = omega arith
-
-four : (n : ℕ) → n < 4294967296 → (n / 16777216 % 256 * 256 + n / 65536 % 256) * 65536 + (n / 256 % 256 * 256 + n % 256) ≡ n
-four n h = spelt n (n / 256) (n / 65536) (n / 16777216) refl (shr-shr n 8 8) (shr-shr n 16 8) (omega arith)
 
 zeros : (k : ℕ) → allZero (replicate k 0) ≡ true
 unfolding allZero
@@ -52,15 +44,15 @@ module _ (t n m : ℕ) (o : List ℕ) where
 
   count-in : length o ≤ 480 → twoAt (blockOf t n m o) 10 ≡ length o
   unfolding blockOf body
-  count-in h = omega arith
+  count-in h = two-back (length o) (omega arith)
 
   take-in : t < 4294967296 → fourAt (blockOf t n m o) 0 ≡ t
   unfolding blockOf body
-  take-in h = four t h
+  take-in h = four-back t h
 
   block-in : n < 4294967296 → fourAt (blockOf t n m o) 4 ≡ n
   unfolding blockOf body
-  block-in h = four n h
+  block-in h = four-back n h
 
   mode-in : getD (blockOf t n m o) 8 0 ≡ m
   unfolding blockOf body

@@ -1,11 +1,14 @@
 // The logger's 512-byte blocks (SCOPE, logger blocks): their check, writing one, reading one.
 ghost use mathlib.Core.Path.{_≡_};
-ghost use Prim.Native.Nat.{_+_, _%_, _<_, _≤_};
+ghost use Prim.Native.Nat.{_≤_};
 ghost use lib.ListN.{length, replicate};
 ghost use Rattle.laws.specs.Outcome.{Does};
 ghost use Rattle.block.specs.Check.{byteStep, check};
-ghost use Rattle.block.specs.Layout.{head, body, blockOf, twoAt, fourAt};
+ghost use Rattle.block.specs.Layout.{head, body, blockOf};
 ghost use Rattle.block.specs.Calls.{between, allowed, allZero, wellFormed, refused, numbered, writeCall, readCall};
+use big_endian::byte;
+use big_endian::four_at;
+use big_endian::two_at;
 use g722::Moved;
 
 // What a block says: the number of SCOPE, and where it is 0 the fields.
@@ -59,13 +62,6 @@ fn allowed(mode: u8, count: usize) -> bool
         return between(1, 480, count);
     }
     false
-}
-
-// The last byte of a number.
-fn byte(x: u32) -> u8
-    ensures { λ r. ⌜ r ≡ x % 256 ⌝ }
-{
-    (x % 256) as u8
 }
 
 // The first twelve bytes of a block.
@@ -161,31 +157,6 @@ pub fn write(take: u32, block: u32, mode: u8, octets: &[u8], out: &mut [u8]) -> 
     numbered(0)
 }
 
-// The same byte in 32 bits.
-fn wide(x: u8) -> u32
-    ensures { λ r. ⌜ (r ≡ x) × (r < 256) ⌝ }
-{
-    x as u32
-}
-
-// The number in two bytes, the high byte first.
-fn two_at(b: &[u8], i: usize) -> u32
-    requires { ⌜ i + 1 < length (now b) ⌝ }
-    ensures { λ r. ⌜ (r ≡ twoAt (now (b .entry)) i) × (r < 65536) ⌝ }
-{
-    let high = wide(b[i]);
-    let low = wide(b[i + 1]);
-    high * 256 + low
-}
-
-// The number in four bytes, the highest first.
-fn four_at(b: &[u8], i: usize) -> u32
-    requires { ⌜ i + 3 < length (now b) ⌝ }
-    ensures { λ r. ⌜ r ≡ fourAt (now (b .entry)) i ⌝ }
-{
-    two_at(b, i) * 65536 + two_at(b, i + 2)
-}
-
 // Whether every byte is zero.
 fn all_zero(bytes: &[u8]) -> bool
     ensures { λ r. ⌜ r ≡ allZero (now (bytes .entry)) ⌝ }
@@ -237,7 +208,7 @@ pub fn read(b: &[u8]) -> BlockRead
     if b.len() != 512 {
         return refused(6);
     }
-    let right = check(&b[0..510]) as u32 == two_at(b, 510);
+    let right = check(&b[0..510]) == two_at(b, 510);
     let formed = well_formed(b);
     if !right {
         return refused(7);

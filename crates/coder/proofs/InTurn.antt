@@ -13,11 +13,11 @@ use Rattle.g722.specs.declared.Coded.{Coded}
 use Rattle.mirror.specs.declared.Parted.{Parted}
 use Rattle.mirror.specs.Block.{filteredBy, pastAfter, splitRun}
 use Rattle.coder.specs.declared.BothBands.{BothBands}
-use Rattle.coder.specs.Step.{bandsCoded, octetsBy, bandsAfter, bandsRun}
+use Rattle.coder.specs.Step.{octetsBy, bandsAfter, bandsRun}
 
 octets-in-turn : (c : Coder) (s : List ℤ)
     → octetsOf c s ≡ octetsBy (c .low) (c .high) (filteredBy lowt (c .past) s) (filteredBy hight (c .past) s)
-unfolding octetsOf octetOf ilOf ihOf coderStep window octetsBy bandsCoded filteredBy
+unfolding octetsOf octetOf ilOf ihOf coderStep window octetsBy filteredBy
 octets-in-turn c [] = refl
 octets-in-turn c (x ∷ []) = refl
 octets-in-turn c (x ∷ y ∷ rest) = ap (λ (l : List ℕ). octetOf c x y ∷ l) (octets-in-turn (coderStep c x y) rest)
@@ -25,7 +25,7 @@ octets-in-turn c (x ∷ y ∷ rest) = ap (λ (l : List ℕ). octetOf c x y ∷ l
 record-in-turn : (c : Coder) (s : List ℤ)
     → let b = bandsAfter (c .low) (c .high) (filteredBy lowt (c .past) s) (filteredBy hight (c .past) s) in
     _≡_ {A = Coder} (coderAfter c s) (record { low = b .low; high = b .high; past = pastAfter (c .past) s })
-unfolding coderAfter coderStep ilOf ihOf window bandsAfter bandsCoded filteredBy pastAfter
+unfolding coderAfter coderStep ilOf ihOf window bandsAfter filteredBy pastAfter
 record-in-turn c [] = refl
 record-in-turn c (x ∷ []) = refl
 record-in-turn c (x ∷ y ∷ rest) = record-in-turn (coderStep c x y) rest

@@ -12,12 +12,3 @@ good-coder = equation (λ κs a l m. refl) (λ M. coder.good_coder.Met.met)
 
 pub code : LeavesOne coder.code.ended (λ M. coder.code.clauses) coder.code.Symbol.routine
 code = call (codedList codedℕ) (λ κs a l m e i. (tt, (tt, (e i, tt)))) (λ M. coder.code.Met.met)
-
-pub low-coded : LeavesOne coder.low_coded.ended (λ M. coder.low_coded.clauses) coder.low_coded.Symbol.routine
-low-coded = equation (λ κs a l m. refl) (λ M. coder.low_coded.Met.met)
-
-pub high-coded : LeavesOne coder.high_coded.ended (λ M. coder.high_coded.clauses) coder.high_coded.Symbol.routine
-high-coded = equation (λ κs a l m. refl) (λ M. coder.high_coded.Met.met)
-
-pub bands-coded : LeavesOne coder.bands_coded.ended (λ M. coder.bands_coded.clauses) coder.bands_coded.Symbol.routine
-bands-coded = equation (λ κs a l m. refl) (λ M. coder.bands_coded.Met.met)

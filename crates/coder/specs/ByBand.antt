@@ -15,7 +15,7 @@ use Rattle.g722.specs.Coding.{lowWordOf, highWordOf}
 use Rattle.g722.specs.declared.Band.{Band}
 use Rattle.sweep.specs.Block.{wordOf, codedNext}
 use Rattle.coder.specs.declared.BothBands.{BothBands}
-use Rattle.coder.specs.Step.{bandsCoded, octetsBy, bandsAfter, bandsRun}
+use Rattle.coder.specs.Step.{octetsBy, bandsAfter, bandsRun}
 
 -- over a run
 abbrev pub wordsBy : Bool → Band → List ℤ → List ℕ
@@ -35,7 +35,7 @@ two-words ih il h k = omega arith
 -- THE LAWS: so are the octets of a run, and so the bands after it
 octets-by-band : (low high : Band) (xls xhs : List ℤ) → length xhs ≡ length xls
     → octetsBy low high xls xhs ≡ zipWith together (wordsBy true high xhs) (wordsBy false low xls)
-unfolding octetsBy bandsCoded outs zipWith wordOf codedNext
+unfolding octetsBy outs zipWith wordOf codedNext
 octets-by-band low high [] [] e = refl
 octets-by-band low high [] (xh ∷ xhs) e = absurd (omega arith)
 octets-by-band low high (xl ∷ xls) [] e = absurd (omega arith)
@@ -46,7 +46,7 @@ octets-by-band low high (xl ∷ xls) (xh ∷ xhs) e =
 
 bands-by-band : (low high : Band) (xls xhs : List ℤ) → length xhs ≡ length xls
     → _≡_ {A = BothBands} (bandsAfter low high xls xhs) (record { low = bandBy false low xls; high = bandBy true high xhs })
-unfolding bandsAfter bandsCoded last codedNext
+unfolding bandsAfter last codedNext
 bands-by-band low high [] [] e = refl
 bands-by-band low high [] (xh ∷ xhs) e = absurd (omega arith)
 bands-by-band low high (xl ∷ xls) [] e = absurd (omega arith)

@@ -10,9 +10,6 @@ ghost use Rattle.laws.specs.Outcome.{Does};
 ghost use Rattle.g722.specs.Records.{allInRange, resetCoder, goodCoder};
 ghost use Rattle.g722.specs.Coding.{coded, codeCall};
 use bands::bands_all;
-pub use bands::bands_coded;
-pub use bands::high_coded;
-pub use bands::low_coded;
 use bounds::all_in_range;
 use bounds::both;
 use bounds::first_bad;
@@ -25,19 +22,6 @@ use g722::Band;
 use g722::Coded;
 use g722::Coder;
 use mirror::split;
-
-// A band's code word, and the band after it.
-pub struct Word {
-    pub word: u8,
-    pub next: Band,
-}
-
-// An octet, and both bands after it.
-pub struct Banded {
-    pub octet: u8,
-    pub low: Band,
-    pub high: Band,
-}
 
 // Both bands.
 pub struct BothBands {

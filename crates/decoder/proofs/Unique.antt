@@ -20,9 +20,3 @@ hear =
 
 pub join : LeavesOne decoder.join.ended (λ M. decoder.join.clauses) decoder.join.Symbol.routine
 join = call (codedList codedℤ) (λ κs a l m e i. (tt, (tt, (tt, (e i, tt))))) (λ M. decoder.join.Met.met)
-
-pub low-heard : LeavesOne decoder.low_heard.ended (λ M. decoder.low_heard.clauses) decoder.low_heard.Symbol.routine
-low-heard = equation (λ κs a l m. refl) (λ M. decoder.low_heard.Met.met)
-
-pub high-heard : LeavesOne decoder.high_heard.ended (λ M. decoder.high_heard.clauses) decoder.high_heard.Symbol.routine
-high-heard = equation (λ κs a l m. refl) (λ M. decoder.high_heard.Met.met)

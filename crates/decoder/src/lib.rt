@@ -1,5 +1,4 @@
 // Decoding: octets to samples in a told mode, with its refusals 1, 3, 2 (SCOPE 8), and the two steps that it is made of.
-mod octet;
 mod samples;
 mod signals;
 
@@ -17,24 +16,14 @@ use bounds::good_low;
 use bounds::lesser;
 use bounds::misfit;
 use bounds::reset_band;
-use g722::Band;
 use g722::Decoded;
 use g722::Decoder;
-use g722::Limited;
 use g722::Pairs;
-pub use octet::high_heard;
-pub use octet::low_heard;
 use quant::in_force;
 pub use samples::join;
 use samples::join_block;
 pub use signals::hear;
 use signals::hear_block;
-
-// A band's heard signal, limited, and the band after it.
-pub struct Signal {
-    pub signal: Limited,
-    pub next: Band,
-}
 
 // The record from which both ends start.
 pub fn reset() -> Decoder

@@ -14,7 +14,7 @@ use Rattle.g722.specs.Records.{goodDecoder}
 use Rattle.g722.specs.Coding.{misfit, notCoded, codeCall}
 use Rattle.g722.specs.Decoding.{decoded}
 use Rattle.g722.specs.declared.Decoder.{Decoder}
-use Rattle.pcm.specs.Bytes.{pcmSamples}
+use Rattle.big_endian.specs.Bytes.{pcmSamples}
 use Rattle.pcm.specs.Chunks.{encodeChunk, notStored, asBytes, decodeChunk}
 use Rattle.state.specs.Layout.{holds, coderIn, decoderIn, writeCall}
 use Rattle.state.specs.Reset.{unheld-coder-broken, unheld-decoder-broken, held-length}

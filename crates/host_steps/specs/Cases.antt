@@ -5,7 +5,7 @@ use mathlib.Core.List.{List, [], _∷_, _++_}
 use Prim.Native.Nat.{ℕ, _*_, _^_}
 use lib.ListN.{take, drop, replicate}
 use Rattle.g722.specs.Opened.{meaning}
-use Rattle.pcm.specs.Bytes.{sampleOf, pcmSamples, wordOf, highOf, lowOf, pcmBytes}
+use Rattle.big_endian.specs.Bytes.{sampleOf, pcmSamples, wordOf, highOf, lowOf, pcmBytes}
 use Rattle.pcm.specs.Chunks.{notStored, asBytes}
 use Rattle.pcm.specs.Signals.{unpairedBytes, notHeardBytes, bothAsBytes, hearChunk, unjoinedBytes, badPair, joinSignals, joinChunk}
 use Rattle.state.specs.Layout.{bandValues, decoderValues, decoderBytes, bandOf, decoderOf, holds, noDecoder, decoderIn}

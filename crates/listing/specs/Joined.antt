@@ -15,13 +15,13 @@ use Rattle.laws.specs.Order.{by-test}
 use Rattle.g722.specs.declared.Decoder.{Decoder}
 use Rattle.block.specs.Calls.{readCall}
 use Rattle.lines.specs.Lines.{blockLine}
-use Rattle.recording.specs.Play.{startPlayer, begins, afresh, decoderFor, reported}
-use Rattle.recording.specs.Played.{play-unread}
-use Rattle.recording.specs.Run.{Playing, onward, after}
-use Rattle.recording.specs.Enough.{AllRead, Ready, stays-ready, ready-after, fresh-ready}
-use Rattle.recording.specs.Said.{said, is-said, next-said}
-use Rattle.recording.specs.declared.Player.{Player}
-use Rattle.recording.specs.declared.Played.{Played}
+use Rattle.playing.specs.Play.{startPlayer, begins, afresh, decoderFor, reported}
+use Rattle.playing.specs.Played.{play-unread}
+use Rattle.playing.specs.Run.{Playing, onward, after}
+use Rattle.playing.specs.Enough.{AllRead, Ready, stays-ready, ready-after, fresh-ready}
+use Rattle.playing.specs.Said.{said, is-said, next-said}
+use Rattle.playing.specs.declared.Player.{Player}
+use Rattle.playing.specs.declared.Played.{Played}
 use Rattle.listing.specs.Listed.{listed}
 use Rattle.listing.specs.Listing.{pieces, start, linesFrom, listing}
 use Rattle.listing.specs.Turns.{pieces-none, pieces-some}

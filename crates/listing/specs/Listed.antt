@@ -4,7 +4,7 @@ use mathlib.Core.Bool.{cond}
 use mathlib.Core.List.{List}
 use Prim.Native.Nat.{ℕ}
 use lib.Dec.{eqb}
-use Rattle.recording.specs.declared.Played.{Played}
+use Rattle.playing.specs.declared.Played.{Played}
 use Rattle.lines.specs.Lines.{blockLine, refusedLine}
 
 unfoldable pub listed : Played → ℕ → List ℕ

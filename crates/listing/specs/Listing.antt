@@ -6,7 +6,7 @@ use Prim.Native.Nat.{ℕ, zero, suc, _+_}
 use lib.Dec.{eqb}
 use lib.IntN.{pos}
 use lib.ListN.{length, take, drop, replicate}
-use Rattle.recording.specs.Run.{Playing, fresh, played, onward}
+use Rattle.playing.specs.Run.{Playing, fresh, played, onward}
 use Rattle.listing.specs.Listed.{listed}
 
 -- a recording in pieces of 512 bytes, of which the last may be shorter. So many turns are enough as there are bytes

@@ -19,8 +19,8 @@ use Rattle.g722.specs.Decoding.{samplesInFull, samplesOf, decoderAfter, decoded
 use Rattle.block.specs.Check.{bitStep, bitSteps, byteStep, checkFrom, check}
 use Rattle.block.specs.Layout.{body, blockOf}
 use Rattle.block.specs.Calls.{between, allowed, allZero, wellFormed, readCall}
-use Rattle.recording.specs.Run.{onward}
-use Rattle.recording.specs.Play.{startPlayer, begins, afresh, decoderFor, reported, playedFrom, playCall}
+use Rattle.playing.specs.Run.{onward}
+use Rattle.playing.specs.Play.{startPlayer, begins, afresh, decoderFor, reported, playedFrom, playCall}
 use Rattle.lines.specs.Decimal.{spelled, decimal, signed}
 use Rattle.lines.specs.Lines.{blockLine, refusedLine}
 use Rattle.lines.specs.Text.{ascii}

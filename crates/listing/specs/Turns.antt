@@ -11,8 +11,8 @@ use borrow.Author.Tests.{eq-eqb, ne-eqb, ltb-true, ltb-false}
 use Rattle.laws.specs.Order.{by-test}
 use Rattle.lines.specs.Lines.{blockLine, refusedLine}
 use Rattle.listing.specs.Listed.{listed}
-use Rattle.recording.specs.Stays.{pieceAt}
-use Rattle.recording.specs.Run.{Playing, played, onward}
+use Rattle.reader.specs.Stays.{pieceAt}
+use Rattle.playing.specs.Run.{Playing, played, onward}
 use Rattle.listing.specs.Listing.{cut, pieces, start, linesFrom, listing}
 
 -- ---- the pieces: none of nothing, else 512 bytes, or as many as there are, and then the pieces of the rest

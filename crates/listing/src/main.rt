@@ -8,8 +8,8 @@ use libc::STDERR_FILENO;
 use libc::STDIN_FILENO;
 use libc::STDOUT_FILENO;
 use lines::Line;
-use recording::Played;
-use recording::Player;
+use playing::Played;
+use playing::Player;
 
 // What a block leaves: the player after it, and whether to read on.
 struct Onward {
@@ -53,7 +53,7 @@ fn last(p: Player) -> Onward {
 
 // Plays a block, or a shorter last piece, and prints its line.
 fn list(p: Player, before: u64, block: &[u8], samples: &mut [i16]) -> Onward {
-    let played = recording::play(p, block, samples);
+    let played = player::play(p, block, samples);
     let next = played.next;
     if !print(listed(played, before)) {
         os::fail(b"write");
@@ -87,7 +87,7 @@ fn turn(p: Player, before: u64, samples: &mut [i16]) -> Onward {
 // Block after block. A proved loop has to end, and nothing says that the input does: no recording has so many blocks.
 fn run() {
     let mut samples = [0i16; 960];
-    let mut p = recording::start();
+    let mut p = player::start();
     let mut before: u64 = 0;
     let mut more = true;
     while more && before < u64::MAX {

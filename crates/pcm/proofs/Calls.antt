@@ -19,7 +19,7 @@ use Rattle.g722.specs.Decoding.{notDecoded, decoded, decodeCall}
 use Rattle.g722.specs.declared.Coder.{Coder}
 use Rattle.g722.specs.declared.Decoder.{Decoder}
 use Rattle.g722.specs.declared.Decoded.{Decoded}
-use Rattle.pcm.specs.Bytes.{pcmSamples, samples-length}
+use Rattle.big_endian.specs.Bytes.{pcmSamples, samples-length}
 use Rattle.pcm.specs.Chunks.{encodeChunk, notStored, asBytes, decodeChunk}
 
 -- a part of the samples that has two for each octet

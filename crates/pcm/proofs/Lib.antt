@@ -1,5 +1,4 @@
 -- What the proofs here share, and the table of answers.
-pub mod Turns
 pub mod Calls
 pub mod Steps
 pub mod Unique

@@ -18,7 +18,7 @@ use Rattle.g722.specs.Coding.{misfit}
 use Rattle.g722.specs.Steps.{unpaired, notHeard, heard, hearCall, firstBadPair, notJoined, joined, joinCall}
 use Rattle.g722.specs.declared.Decoder.{Decoder}
 use Rattle.g722.specs.declared.Decoded.{Decoded}
-use Rattle.pcm.specs.Bytes.{pcmSamples, pcmBytes, samples-length}
+use Rattle.big_endian.specs.Bytes.{pcmSamples, pcmBytes, samples-length}
 use Rattle.pcm.specs.Chunks.{notStored, asBytes}
 use Rattle.pcm.specs.Signals.{unpairedBytes, notHeardBytes, bothAsBytes, hearChunk, unjoinedBytes, badPair, joinSignals, joinChunk}
 

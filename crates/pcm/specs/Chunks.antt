@@ -18,7 +18,7 @@ use Rattle.g722.specs.declared.Coder.{Coder}
 use Rattle.g722.specs.declared.Coded.{Coded}
 use Rattle.g722.specs.declared.Decoder.{Decoder}
 use Rattle.g722.specs.declared.Decoded.{Decoded}
-use Rattle.pcm.specs.Bytes.{pcmSamples, pcmBytes}
+use Rattle.big_endian.specs.Bytes.{pcmSamples, pcmBytes}
 
 -- four bytes an octet, else 3
 unfoldable pub encodeChunk : Coder → List ℕ → List ℕ → Outcome Coded (List ℕ)

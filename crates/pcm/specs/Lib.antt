@@ -1,4 +1,3 @@
--- Samples as bytes, and the calls on a chunk of them, in one step and in two.
-pub mod Bytes
+-- The calls on a chunk of samples as bytes, in one step and in two.
 pub mod Chunks
 pub mod Signals

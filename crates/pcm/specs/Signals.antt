@@ -16,7 +16,7 @@ use Rattle.g722.specs.Records.{goodDecoder}
 use Rattle.g722.specs.Steps.{heard, firstBadPair, joined}
 use Rattle.g722.specs.declared.Decoder.{Decoder}
 use Rattle.g722.specs.declared.Decoded.{Decoded}
-use Rattle.pcm.specs.Bytes.{pcmSamples, pcmBytes}
+use Rattle.big_endian.specs.Bytes.{pcmSamples, pcmBytes}
 use Rattle.pcm.specs.Chunks.{notStored, asBytes, samples-within}
 
 -- ---- the first step

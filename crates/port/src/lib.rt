@@ -2,12 +2,12 @@
 ghost use mathlib.Core.Path.{_≡_};
 ghost use Rattle.port.specs.Step.{heardOf, sentOf};
 use arith::changes;
-use coder::bands_coded;
-use decoder::high_heard;
-use decoder::low_heard;
 use g722::Coder;
 use g722::Decoder;
 use g722::Limited;
+use plain::bands_coded;
+use plain::high_heard;
+use plain::low_heard;
 use quant::in_force;
 
 // What a port's octet gives: its two signals, and the decoder after it.

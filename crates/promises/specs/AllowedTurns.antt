@@ -3,21 +3,16 @@
 -- Assumes nothing.
 use mathlib.Core.Path.{_≡_, refl}
 use mathlib.Core.List.{List, [], _∷_, map}
-use Prim.Native.Nat.{ℕ}
 use Rattle.g722.specs.Records.{resetCoder, resetDecoder}
 use Rattle.g722.specs.declared.Coder.{Coder}
 use Rattle.g722.specs.declared.Decoder.{Decoder}
-use Rattle.state.specs.Reset.{resetBytes}
 use Rattle.promises.specs.Through.{Calls}
 use Rattle.promises.specs.Sequences.{CodeInput, DecodeInput}
-use Rattle.promises.specs.Streams.{EncodeInput, StoreInput}
 use Rattle.promises.specs.Turns.{Turn, reset, more, onTurn}
 use Rattle.promises.specs.Made.{Made}
 use Rattle.promises.specs.MadeTurns.{MadeTurns, none, afresh, called}
 use Rattle.promises.specs.Running.{Reset-coder, Reset-decoder, codings, decodings}
-use Rattle.promises.specs.RunningHost.{hostCodes, hostDecodes}
 use Rattle.promises.specs.Allowed.{Makes, makes-code, makes-decode, can-reset}
-use Rattle.promises.specs.AllowedHost.{makes-host-code, makes-host-decode}
 
 -- turns that were made from a record, each as it was asked for, and the record that they end with
 pub record Turning {ℓ} {C : Calls} (M : Made C) (Reset : C .State → Type ℓ) (s : C .State) (ts : List (Turn (C .Input)))
@@ -30,7 +25,7 @@ pub record Turning {ℓ} {C : Calls} (M : Made C) (Reset : C .State → Type ℓ
 module _ {ℓ} {C : Calls} (M : Made C) (can : Makes M) (Reset : C .State → Type ℓ) (start : C .State) (is-reset : Reset start) where
   open Makes can using (make, asked, may)
 
-  all-turns : (s : C .State) (ts : List (Turn (C .Input))) → Turning M Reset s ts
+  pub all-turns : (s : C .State) (ts : List (Turn (C .Input))) → Turning M Reset s ts
   all-turns s [] = record { turns = []; last = s; made = none; as-asked = refl }
   all-turns s (reset ∷ ts) =
       let rest = all-turns start ts in
@@ -49,15 +44,9 @@ module _ {ℓ} {C : Calls} (M : Made C) (can : Makes M) (Reset : C .State → Ty
         as-asked = λ i. more (asked s k i) ∷ rest .as-asked i;
       }
 
--- THE THEOREMS: any calls and resets can be made at each end, with records and by a host
+-- THE THEOREMS: any calls and resets can be made at each end
 pub can-code-turns : (c : Coder) (ts : List (Turn CodeInput)) → Turning codings Reset-coder c ts
 can-code-turns = all-turns codings makes-code Reset-coder resetCoder (can-reset .0)
 
 pub can-decode-turns : (d : Decoder) (ts : List (Turn DecodeInput)) → Turning decodings Reset-decoder d ts
 can-decode-turns = all-turns decodings makes-decode Reset-decoder resetDecoder (can-reset .1)
-
-pub can-host-code-turns : (state : List ℕ) (ts : List (Turn EncodeInput)) → Turning hostCodes (λ s. s ≡ resetBytes 1) state ts
-can-host-code-turns = all-turns hostCodes makes-host-code (λ s. s ≡ resetBytes 1) (resetBytes 1) refl
-
-pub can-host-decode-turns : (state : List ℕ) (ts : List (Turn StoreInput)) → Turning hostDecodes (λ s. s ≡ resetBytes 2) state ts
-can-host-decode-turns = all-turns hostDecodes makes-host-decode (λ s. s ≡ resetBytes 2) (resetBytes 2) refl

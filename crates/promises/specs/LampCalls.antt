@@ -1,5 +1,5 @@
 -- What the counts of calls mean, over any sequence of them, refused ones among them: together they are the number of values in full
--- that are out of range, over one run of what the accepted calls were given. Of coding, of decoding, of its two steps, and of the desk.
+-- that are out of range, over one run of what the accepted calls were given. Of coding, of decoding, and of its two steps.
 -- Assumes nothing.
 use mathlib.Core.Path.{_≡_, refl, sym, ap, ap₂, _∙_}
 use mathlib.Core.List.{List, _++_}
@@ -17,21 +17,14 @@ use Rattle.g722.specs.declared.Decoder.{Decoder}
 use Rattle.facts.specs.Overload.{placesOut, overloads-are, overloads-append}
 use Rattle.facts.specs.CodedRuns as coded-runs
 use Rattle.facts.specs.Told.{fullRun, marked, full-run, full-join}
-use Rattle.conference.specs.Sums.{sumsOf}
-use Rattle.conference.specs.Ports.{rlsFrom, rhsFrom}
-use Rattle.conference.specs.Tick.{sumsLimited, tickLimited}
-use Rattle.conference.specs.Cases.{refused}
-use Rattle.conference.specs.Own.{TickInput}
-use Rattle.conference.specs.declared.Desk.{Desk}
 use Rattle.promises.specs.Accepted.{coded-run, decoded-run, heard-run}
 use Rattle.promises.specs.Refused.{code-beside, decode-beside, hear-beside, join-beside}
-use Rattle.promises.specs.Through.{ofAccepted, of-as-one-run}
+use Rattle.promises.specs.Through.{of-as-one-run}
 use Rattle.promises.specs.StepRuns.{received, received-marked, lowsRun, ylsRun, yls-marked, yls-cut, yhs-cut, lows, highs, full-cut}
 use Rattle.promises.specs.Sequences.{CodeInput, coding, coding-runs, samplesTaken, whole}
 use Rattle.promises.specs.Sequences.{DecodeInput, decoding, decoding-runs, octetsTaken}
 use Rattle.promises.specs.HearCalls.{HearInput, hearing, hearing-runs, octetsHeard}
 use Rattle.promises.specs.JoinCalls.{JoinInput, joining, joining-runs, joins, pairsTaken}
-use Rattle.promises.specs.DeskCalls.{ticking, outcome}
 use Rattle.promises.specs.Lamp.{Counts, countThrough, counts-add-up, two-rows}
 
 -- ---- coding: XL and XH
@@ -135,22 +128,3 @@ joined-count d ks =
     (λ b k. joinedInFull (b .past) (lows (joining .given k)) (highs (joining .given k)))
     (λ b hs. joinedInFull (b .past) (lows hs) (highs hs)) (λ b. refl) (λ b k e. refl)
     (λ b k e rest. full-cut (b .past) (joining .given k) rest) d ks)
-
--- ---- the desk: the sums of its accepted ticks
-
-pub ticking-counts : Counts ticking
-unfolding tickLimited sumsLimited
-ticking-counts =
-    record {
-      limited = λ a. a .limited;
-      full = λ d i. sumsOf (rlsFrom (d .decoders) (i .modes) (i .octets)) ++ sumsOf (rhsFrom (d .decoders) (i .octets));
-      counted = λ d i e. ap (λ o. o .answer .limited) (outcome d i e) ∙ sym (overloads-append _ _);
-      dark = λ d i e. refused d (i .modes) (i .octets) (i .room) (eqb-false _ _ e) .2;
-    }
-
-pub ticked-count : (desk : Desk) (is : List TickInput)
-    → countThrough ticking ticking-counts desk is
-    ≡ overloads (ofAccepted ticking
-    (λ d i. sumsOf (rlsFrom (d .decoders) (i .modes) (i .octets)) ++ sumsOf (rhsFrom (d .decoders) (i .octets))) desk is)
-unfolding ticking-counts
-ticked-count desk is = counts-add-up ticking ticking-counts desk is

@@ -1,4 +1,4 @@
--- The promises: theorems over the definitions of `g722`, and over the contracts of the functions that are called.
+-- The promises: theorems over the definitions of `g722`, and over the contracts of the functions that are called with a record.
 -- a call, accepted or refused
 pub mod Accepted
 pub mod Refused
@@ -14,9 +14,8 @@ pub mod JoinCalls
 pub mod StepGiven
 pub mod StepOrder
 pub mod StepSplit
-pub mod Streams
 pub mod Good
-pub mod Fitting
+pub mod LampCalls
 -- the two ends
 pub mod SameBands
 pub mod Ends
@@ -31,24 +30,6 @@ pub mod UnheardSignals
 pub mod UnheardSteps
 pub mod Carried
 pub mod Witness
--- a host that keeps the record as bytes
-pub mod Kept
-pub mod Packed
-pub mod HostRefused
-pub mod HostCalls
-pub mod HostEnds
-pub mod HostResets
-pub mod HostStepsRefused
-pub mod HostSteps
-pub mod HostUnheard
-pub mod HostSignals
-pub mod HostCarried
-pub mod HostWitness
--- the conference desk
-pub mod DeskCalls
-pub mod DeskEnds
--- the counts of them all
-pub mod LampCalls
 -- the running code
 pub mod Made
 pub mod Running
@@ -56,13 +37,8 @@ pub mod RunningSteps
 pub mod RunningStepEnds
 pub mod MadeTurns
 pub mod RunningResets
-pub mod RunningHost
-pub mod RunningHostResets
-pub mod RunningHostData
 pub mod RunningData
 pub mod Allowed
 pub mod AllowedSteps
-pub mod AllowedHost
 pub mod AllowedTurns
-pub mod RunningDesk
 pub mod RunningLamp

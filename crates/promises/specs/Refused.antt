@@ -1,10 +1,9 @@
--- A refused call changes nothing and counts nothing, and only number 4 has an index: of each call on a record, on data, and on a chunk
--- of a stream.
+-- A refused call changes nothing and counts nothing, and only number 4 has an index: of each call on a record and on data.
 -- Assumes nothing.
 use mathlib.Core.Path.{_≡_, refl}
 use mathlib.Core.Bool.{_||_, not}
 use mathlib.Core.List.{List}
-use Prim.Native.Nat.{ℕ, _*_}
+use Prim.Native.Nat.{ℕ}
 use borrow.Author.Tests.{ne-eqb}
 use lib.Dec.{ltb, eqb}
 use lib.IntN.{ℤ}
@@ -15,7 +14,6 @@ use Rattle.g722.specs.Coding.{firstBad, misfit, notCoded, coded, codeCall}
 use Rattle.g722.specs.Decoding.{notDecoded, decoded, decodeCall}
 use Rattle.g722.specs.Steps.{unpaired, notHeard, heard, hearCall, firstBadPair, notJoined, joined, joinCall}
 use Rattle.g722.specs.Cue.{dataCall, putCall, takeCall}
-use Rattle.pcm.specs.Chunks.{encodeChunk, notStored, asBytes, decodeChunk}
 use Rattle.g722.specs.declared.Coder.{Coder}
 use Rattle.g722.specs.declared.Decoder.{Decoder}
 
@@ -88,17 +86,3 @@ pub take-beside : (mode : ℕ) (octets bytes : List ℕ) → let x = takeCall mo
     Beside (x .answer .number) (x .answer .index) 0 (x .left) bytes
 unfolding takeCall dataCall
 take-beside mode octets bytes = data-beside _ bytes _
-
-pub encode-chunk-beside : (c : Coder) (bytes octets : List ℕ) → let x = encodeChunk c bytes octets in
-    Beside (x .answer .number) (x .answer .index) (x .answer .limited) {X = Coder × List ℕ} (x .answer .next, x .left) (c, octets)
-unfolding encodeChunk notCoded
-encode-chunk-beside c bytes octets =
-    by-test (eqb (length bytes) (4 * length octets)) (λ e. rw e (code-beside c _ octets)) (λ e. rw e unchanged)
-
-pub decode-chunk-beside : (d : Decoder) (told : ℕ) (octets bytes : List ℕ) → let x = decodeChunk d told octets bytes in
-    Beside (x .answer .number) (x .answer .index) (x .answer .limited) {X = Decoder × List ℕ} (x .answer .next, x .left) (d, bytes)
-unfolding decodeChunk notStored asBytes decoded
-decode-chunk-beside d told octets bytes =
-    by-test (ltb 3 told) (λ e. rw e unchanged) (λ e.
-    by-test (ltb 8000 (length octets) || not (eqb (length bytes) (4 * length octets))) (λ f. rw (e, f) unchanged) (λ f.
-    by-test (goodDecoder d) (λ g. rw (e, f, g) accepted) (λ g. rw (e, f, g) unchanged)))

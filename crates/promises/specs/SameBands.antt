@@ -2,55 +2,63 @@
 -- without the transmit filter, and so of coding.
 -- Assumes nothing.
 use mathlib.Core.Path.{_≡_, sym, ap, _∙_}
-use mathlib.Core.List.{[], _∷_}
+use mathlib.Core.List.{List, [], _∷_}
 use Prim.Native.Nat.{ℕ, _/_}
 use lib.IntN.{ℤ}
+use lib.ListN.{drop}
+use Rattle.g722.specs.Arithmetic.{limit}
 use Rattle.g722.specs.Band.{lowAfter, highAfter}
-use Rattle.g722.specs.Octet.{highWord, lowWord}
-use Rattle.g722.specs.Coding.{lowWordOf, highWordOf, octetOf, coderStep}
+use Rattle.g722.specs.Mirror.{lowt, hight}
+use Rattle.g722.specs.Octet.{octet, highWord, lowWord}
+use Rattle.g722.specs.Coding.{window, lowWordOf, highWordOf, ilOf, ihOf, octetOf, coderStep}
 use Rattle.g722.specs.Steps.{bandAfter, heardAfter}
 use Rattle.g722.specs.declared.Band.{Band}
 use Rattle.g722.specs.declared.Coder.{Coder}
 use Rattle.g722.specs.declared.Decoder.{Decoder}
 use Rattle.facts.specs.Sent.{quantl-small, low-of-octet, high-of-octet}
 use Rattle.facts.specs.Upper.{upperSix, low-by-four, upper-low, upper-high}
-use Rattle.conference.specs.Ports.{octetTo, coderTo}
-use Rattle.conference.specs.Codec.{filtered, coding-by-sub-bands}
 
 -- both bands: predictors, log factors and scale factors
 pub record SameBands (c : Coder) (d : Decoder) : Type 0 where
   pub low : c .low ≡ d .low
   pub high : c .high ≡ d .high
 
--- the octet holds what the coder's loop used
-module _ (c : Coder) (s : ℤ × ℤ) where
-  low-sent : lowWord (octetTo c s) ≡ lowWordOf (c .low) (s .0)
-  unfolding octetTo
-  low-sent = low-of-octet (highWordOf (c .high) (s .1)) (lowWordOf (c .low) (s .0)) (quantl-small _ _)
+-- the words of a low and a high signal, and the octet of both
+module _ (c : Coder) (xl xh : ℤ) where
+  abbrev pub lowSent : ℕ
+  lowSent = lowWordOf (c .low) xl
 
-  high-sent : highWord (octetTo c s) ≡ highWordOf (c .high) (s .1)
-  unfolding octetTo
-  high-sent = high-of-octet (highWordOf (c .high) (s .1)) (lowWordOf (c .low) (s .0)) (quantl-small _ _)
+  abbrev pub highSent : ℕ
+  highSent = highWordOf (c .high) xh
 
-  -- one octet, by the two sub-band coders
-  pub same-signals : (d : Decoder) (o : ℕ) → SameBands c d → upperSix (octetTo c s) ≡ upperSix o
-      → SameBands (coderTo c s) (heardAfter d (o ∷ []))
-  unfolding coderTo heardAfter bandAfter
-  same-signals d o b e =
+  abbrev pub bothSent : ℕ
+  bothSent = octet highSent lowSent
+
+  -- the octet holds what the coder's loop used
+  low-sent : lowWord bothSent ≡ lowSent
+  low-sent = low-of-octet highSent lowSent (quantl-small _ _)
+
+  high-sent : highWord bothSent ≡ highSent
+  high-sent = high-of-octet highSent lowSent (quantl-small _ _)
+
+  -- one octet, by the two sub-band coders, whatever past samples the coder is left with
+  pub same-words : (past : List ℤ) (d : Decoder) (o : ℕ) → SameBands c d → upperSix bothSent ≡ upperSix o
+      → SameBands (record { low = lowAfter (c .low) lowSent; high = highAfter (c .high) highSent; past = past }) (heardAfter d (o ∷ []))
+  unfolding heardAfter bandAfter
+  same-words past d o b e =
       record {
         low =
-            low-by-four (c .low) (lowWordOf (c .low) (s .0)) (lowWord o)
-            (ap (λ (w : ℕ). w / 4) (sym low-sent) ∙ upper-low (octetTo c s) o e)
+            low-by-four (c .low) lowSent (lowWord o) (ap (λ (w : ℕ). w / 4) (sym low-sent) ∙ upper-low bothSent o e)
             ∙ ap (λ (t : Band). lowAfter t (lowWord o)) (b .low);
         high =
-            ap (highAfter (c .high)) (sym high-sent ∙ upper-high (octetTo c s) o e)
+            ap (highAfter (c .high)) (sym high-sent ∙ upper-high bothSent o e)
             ∙ ap (λ (t : Band). highAfter t (highWord o)) (b .high);
       }
 
 -- one octet, out of a pair of samples
 pub same-samples : (c : Coder) (d : Decoder) (x y : ℤ) (o : ℕ) → SameBands c d → upperSix (octetOf c x y) ≡ upperSix o
     → SameBands (coderStep c x y) (heardAfter d (o ∷ []))
+unfolding octetOf coderStep ilOf ihOf
 same-samples c d x y o b e =
-    let same = coding-by-sub-bands c x y in
-    let t = same-signals c (filtered c x y) d o b (ap upperSix (sym (same .0)) ∙ e) in
-    record { low = ap (λ (r : Coder). r .low) (same .1) ∙ t .low; high = ap (λ (r : Coder). r .high) (same .1) ∙ t .high }
+    let w = window c x y in
+    same-words c (limit (lowt w)) (limit (hight w)) (drop 2 w) d o b e

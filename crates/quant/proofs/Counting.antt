@@ -21,7 +21,7 @@ use Rattle.g722.specs.Arithmetic.{neg, mul}
 use Rattle.g722.specs.Tables.{q6}
 use Rattle.g722.specs.Quantise.{level, atOrBelow}
 use Rattle.g722.specs.Checks.{levels-rise}
-use Rattle.tables.specs.Unstopped.{unstopped}
+use Rattle.quant.specs.Unstopped.{unstopped}
 use Rattle.quant.proofs.Laws.{eight-small}
 
 -- the code asks whether a size is below a level, the definition whether the level is at or below the size

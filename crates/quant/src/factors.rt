@@ -7,11 +7,11 @@ use arith::mul;
 use arith::size;
 use arith::wide;
 use g722::Factors;
-use tables::from_four;
-use tables::from_two;
 use tables::scale_at;
 use tables::wh_at;
 use tables::wl_at;
+use words::from_four;
+use words::from_two;
 
 // The next log factor: the old one times 32512, plus a weight, kept between 0 and top.
 fn logsc(top: i16, w: i16, nb: i16) -> i16

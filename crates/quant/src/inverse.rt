@@ -7,14 +7,14 @@ ghost use Rattle.g722.specs.Arithmetic.{neg, mul};
 ghost use Rattle.g722.specs.Quantise.{invqal, invqah, inForce, invqbl};
 use crate::product;
 use arith::pick;
-use tables::from_five;
-use tables::from_four;
-use tables::from_six;
-use tables::from_two;
 use tables::qq2_at;
 use tables::qq4_at;
 use tables::qq5_at;
 use tables::qq6_at;
+use words::from_five;
+use words::from_four;
+use words::from_six;
+use words::from_two;
 
 // An output with its sign, times the scale: DET * WD2.
 fn inverse(q: u16, negative: bool, det: i16) -> i16

@@ -10,8 +10,8 @@ ghost use Rattle.g722.specs.Quantise.{level, atOrBelow, quantl, quanth};
 use arith::size;
 use arith::wide;
 use g722::Interval;
-use tables::to_six;
-use tables::to_two;
+use words::to_six;
+use words::to_two;
 
 // Table 14: Q6 (1) to Q6 (29).
 const Q6: [u16; 29] = [

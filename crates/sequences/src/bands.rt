@@ -2,11 +2,11 @@
 ghost use Prim.Native.Nat.{_≤_};
 use arith::add;
 use bounds::reset_band;
-use coder::high_coded;
-use coder::low_coded;
-use decoder::high_heard;
-use decoder::low_heard;
 use g722::Band;
+use plain::high_coded;
+use plain::high_heard;
+use plain::low_coded;
+use plain::low_heard;
 
 // Both bands, of which a decoder moves only its own.
 struct Bands {
@@ -66,8 +66,8 @@ fn coded(s: Bands, x: i16) -> Output {
 fn band_output(signal: i16, low: Band, high: Band) -> Output {
     let word = add(signal, signal);
     Output {
-        first: pcm::high(word),
-        second: pcm::low(word),
+        first: big_endian::high(word),
+        second: big_endian::low(word),
         next: Bands {
             low: low,
             high: high,
@@ -103,7 +103,7 @@ fn made(maker: u8, s: Bands, first: u8, second: u8) -> Output {
     match maker {
         48 => high_word(s, first),
         49..=51 => low_word(maker - 48, s, first),
-        _ => coded(s, pcm::sample(first, second)),
+        _ => coded(s, big_endian::sample(first, second)),
     }
 }
 

@@ -15,8 +15,8 @@ use Rattle.g722.specs.Records.{resetBand}
 use Rattle.g722.specs.declared.Band.{Band}
 use Rattle.g722.specs.declared.Coder.{Coder}
 use Rattle.g722.specs.declared.Decoder.{Decoder}
-use Rattle.pcm.specs.Bytes.{pcmSamples, pcmBytes, loadCall, storeCall, load-all, store-all}
-use Rattle.pcm.specs.Bytes.{samples-of-first, samples-of-rest, bytes-join, bytes-length}
+use Rattle.big_endian.specs.Bytes.{pcmSamples, pcmBytes, loadCall, storeCall, load-all, store-all}
+use Rattle.big_endian.specs.Bytes.{samples-of-first, samples-of-rest, bytes-join, bytes-length}
 use Rattle.state.specs.Layout.{bandValues, coderValues, decoderValues, coderBytes, decoderBytes, writeCall}
 use Rattle.state.specs.Layout.{value, part, bandOf, coderOf, decoderOf, holds, noCoder, noDecoder, coderIn, decoderIn}
 

@@ -9,7 +9,7 @@ use Rattle.g722.specs.declared.Band.{Band}
 use Rattle.g722.specs.declared.Coder.{Coder}
 use Rattle.g722.specs.declared.Decoder.{Decoder}
 use Rattle.facts.specs.Fits.{BandFits}
-use Rattle.pcm.specs.Bytes.{pcmBytes}
+use Rattle.big_endian.specs.Bytes.{pcmBytes}
 use Rattle.state.specs.Layout.{bandValues, coderValues, decoderValues, coderBytes, decoderBytes}
 use Rattle.state.specs.Values.{spelled, spelled-same}
 

@@ -12,7 +12,7 @@ use Rattle.g722.specs.Records.{resetBand}
 use Rattle.g722.specs.declared.Band.{Band}
 use Rattle.g722.specs.declared.Coder.{Coder}
 use Rattle.g722.specs.declared.Decoder.{Decoder}
-use Rattle.pcm.specs.Bytes.{pcmSamples, pcmBytes}
+use Rattle.big_endian.specs.Bytes.{pcmSamples, pcmBytes}
 
 -- ---- written
 

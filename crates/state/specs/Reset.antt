@@ -13,7 +13,7 @@ use Rattle.g722.specs.Tables.{ila}
 use Rattle.g722.specs.Quantise.{scaleAt, scalel, scaleh}
 use Rattle.g722.specs.Records.{inRange, allInRange, goodPoles, goodFactors, goodLow, goodHigh, goodCoder, goodDecoder}
 use Rattle.g722.specs.Records.{resetBand, resetCoder, resetDecoder}
-use Rattle.pcm.specs.Bytes.{wordOf, highOf, lowOf, pcmBytes}
+use Rattle.big_endian.specs.Bytes.{wordOf, highOf, lowOf, pcmBytes}
 use Rattle.state.specs.Layout.{bandValues, coderValues, decoderValues, coderBytes, decoderBytes}
 use Rattle.state.specs.Layout.{holds, noCoder, noDecoder, coderIn, decoderIn}
 

@@ -15,7 +15,7 @@ use Rattle.laws.specs.Order.{by-test}
 use Rattle.g722.specs.declared.Coder.{Coder}
 use Rattle.g722.specs.declared.Decoder.{Decoder}
 use Rattle.facts.specs.Fits.{Fit, AllFit, Row, CoderFits, DecoderFits, fit-at}
-use Rattle.pcm.specs.Bytes.{sampleOf, pcmSamples, pcmBytes, samples-of-bytes, bytes-of-samples, samples-length, bytes-length}
+use Rattle.big_endian.specs.Bytes.{sampleOf, pcmSamples, pcmBytes, samples-of-bytes, bytes-of-samples, samples-length, bytes-length}
 use Rattle.state.specs.Layout.{coderValues, decoderValues, coderBytes, decoderBytes, coderOf, decoderOf}
 use Rattle.state.specs.Layout.{holds, noCoder, noDecoder, coderIn, decoderIn}
 use Rattle.state.specs.Values.{coder-values-row, coder-of-values, coder-values-of, coder-of-fits}

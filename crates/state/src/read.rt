@@ -1,8 +1,9 @@
 // State bytes to records.
 ghost use mathlib.Core.Path.{_≡_};
 ghost use lib.ListN.{length};
-ghost use Rattle.pcm.specs.Bytes.{pcmSamples};
+ghost use Rattle.big_endian.specs.Bytes.{pcmSamples};
 ghost use Rattle.state.specs.Layout.{bandOf, holds, coderIn, decoderIn};
+use big_endian::load;
 use bounds::reset_band;
 use g722::Band;
 use g722::Coder;
@@ -11,7 +12,6 @@ use g722::Factors;
 use g722::Pairs;
 use g722::Poles;
 use g722::Zeros;
-use pcm::load;
 
 // Whether the bytes have the length of a state, and the first is this kind's.
 fn holds(kind: u8, state: &[u8]) -> bool

@@ -3,12 +3,12 @@ ghost use mathlib.Core.Path.{_≡_};
 ghost use mathlib.Core.List.{_∷_, _++_};
 ghost use lib.ListN.{length, take};
 ghost use Rattle.laws.specs.Outcome.{Does};
-ghost use Rattle.pcm.specs.Bytes.{pcmBytes};
+ghost use Rattle.big_endian.specs.Bytes.{pcmBytes};
 ghost use Rattle.state.specs.Layout.{bandValues, coderBytes, decoderBytes, writeCall};
+use big_endian::store;
 use g722::Band;
 use g722::Coder;
 use g722::Decoder;
-use pcm::store;
 
 // A band as its 20 values.
 fn write_band(s: Band, bytes: &mut [u8])

@@ -3,12 +3,12 @@
 ghost use mathlib.Core.Path.{_≡_};
 ghost use Prim.Native.Nat.{_*_, _≤_};
 ghost use lib.ListN.{length};
-use coder::bands_coded;
+use big_endian::sample;
 use g722::Band;
 use libc::STDERR_FILENO;
 use libc::STDIN_FILENO;
 use libc::STDOUT_FILENO;
-use pcm::sample;
+use plain::bands_coded;
 
 // Both bands of a coder.
 struct Bands {

@@ -21,7 +21,7 @@ use Rattle.g722.specs.declared.Zeros.{Zeros}
 use Rattle.g722.specs.declared.Poles.{Poles}
 use Rattle.g722.specs.declared.Factors.{Factors}
 use Rattle.g722.specs.declared.Band.{Band}
-use Rattle.tables.specs.Signed.{outputAt, outputsOf, outputs-at, invqah-by, invqbl-by}
+use Rattle.at_hand.specs.Signed.{outputAt, outputsOf, outputs-at, invqah-by, invqbl-by}
 use Rattle.idle.specs.Rows.{zerosAt, Quiet, begun-six, begun-quiet}
 use Rattle.idle.specs.Recursive.{polesOf, Fit}
 use Rattle.idle.specs.Factors.{factorsOf, Held}

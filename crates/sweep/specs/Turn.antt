@@ -15,7 +15,7 @@ use Rattle.g722.specs.declared.Zeros.{Zeros}
 use Rattle.g722.specs.declared.Poles.{Poles}
 use Rattle.g722.specs.declared.Factors.{Factors}
 use Rattle.g722.specs.declared.Band.{Band}
-use Rattle.tables.specs.Signed.{signedOf, outputAt, outputsOf, weightAt, weightsOf}
+use Rattle.at_hand.specs.Signed.{signedOf, outputAt, outputsOf, weightAt, weightsOf}
 use Rattle.idle.specs.Recursive.{polesOf, Fit}
 use Rattle.idle.specs.Factors.{factorsOf, Held, weighed}
 use Rattle.sweep.specs.declared.Turned.{Turned}

@@ -26,14 +26,14 @@ use crate::takes;
 use crate::turn::predic;
 use crate::turn::turn;
 use arith::sub;
+use at_hand::ilb;
+use at_hand::outputs;
+use at_hand::weights;
 use g722::Band;
 use idle::Recursive;
 use idle::Scales;
 use quant::quanth;
 use quant::quantl;
-use tables::ilb;
-use tables::outputs;
-use tables::weights;
 
 // The word of a difference, in six bits.
 fn word(high: bool, e: i16, scale: i16) -> u8

@@ -26,12 +26,12 @@ use crate::turn::inverse;
 use crate::turn::predic;
 use crate::turn::turn;
 use arith::clamp;
+use at_hand::ilb;
+use at_hand::outputs;
+use at_hand::weights;
 use g722::Band;
 use idle::Recursive;
 use idle::Scales;
-use tables::ilb;
-use tables::outputs;
-use tables::weights;
 
 // How far the band's word is moved to stand in the lower six bits.
 fn places(high: bool) -> u32

@@ -23,30 +23,3 @@ wh-at = equation (λ κs a l m. refl) (λ M. tables.wh_at.Met.met)
 
 pub scale-at : LeavesOne tables.scale_at.ended (λ M. tables.scale_at.clauses) tables.scale_at.Symbol.routine
 scale-at = equation (λ κs a l m. refl) (λ M. tables.scale_at.Met.met)
-
-pub outputs : LeavesOne tables.outputs.ended (λ M. tables.outputs.clauses) tables.outputs.Symbol.routine
-outputs = equation (λ κs a l m. refl) (λ M. tables.outputs.Met.met)
-
-pub weights : LeavesOne tables.weights.ended (λ M. tables.weights.clauses) tables.weights.Symbol.routine
-weights = equation (λ κs a l m. refl) (λ M. tables.weights.Met.met)
-
-pub ilb : LeavesOne tables.ilb.ended (λ M. tables.ilb.clauses) tables.ilb.Symbol.routine
-ilb = equation (λ κs a l m. refl) (λ M. tables.ilb.Met.met)
-
-pub to-six : LeavesOne tables.to_six.ended (λ M. tables.to_six.clauses) tables.to_six.Symbol.routine
-to-six = equation (λ κs a l m. refl) (λ M. tables.to_six.Met.met)
-
-pub from-four : LeavesOne tables.from_four.ended (λ M. tables.from_four.clauses) tables.from_four.Symbol.routine
-from-four = equation (λ κs a l m. refl) (λ M. tables.from_four.Met.met)
-
-pub from-six : LeavesOne tables.from_six.ended (λ M. tables.from_six.clauses) tables.from_six.Symbol.routine
-from-six = equation (λ κs a l m. refl) (λ M. tables.from_six.Met.met)
-
-pub from-five : LeavesOne tables.from_five.ended (λ M. tables.from_five.clauses) tables.from_five.Symbol.routine
-from-five = equation (λ κs a l m. refl) (λ M. tables.from_five.Met.met)
-
-pub to-two : LeavesOne tables.to_two.ended (λ M. tables.to_two.clauses) tables.to_two.Symbol.routine
-to-two = equation (λ κs a l m. refl) (λ M. tables.to_two.Met.met)
-
-pub from-two : LeavesOne tables.from_two.ended (λ M. tables.from_two.clauses) tables.from_two.Symbol.routine
-from-two = equation (λ κs a l m. refl) (λ M. tables.from_two.Met.met)

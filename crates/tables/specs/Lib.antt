@@ -2,7 +2,3 @@
 pub mod Entries
 -- ILB as the code keeps it.
 pub mod Rows
--- Where a product is not stopped.
-pub mod Unstopped
--- The outputs and the weights by the word itself.
-pub mod Signed

@@ -2,27 +2,27 @@
 ghost use mathlib.Core.Path.{_≡_};
 ghost use Prim.Native.Nat.{_≤_};
 ghost use lib.ListN.{length};
-ghost use Rattle.recording.specs.Walk.{stepAt, nextAt};
+ghost use Rattle.reader.specs.Walk.{stepAt, nextAt};
 use libc::STDERR_FILENO;
 use libc::STDIN_FILENO;
 use libc::STDOUT_FILENO;
 use lines::Line;
-use recording::Player;
-use recording::Reader;
-use recording::Step;
+use playing::Player;
+use reader::Reader;
+use reader::Step;
 
 // What the reader says at first.
 fn first(src: &[u8]) -> Step
     ensures { λ r. ⌜ r ≡ stepAt (now (src .entry)) 0 ⌝ }
 {
-    recording::next(recording::new(src))
+    reader::next(reader::new(src))
 }
 
 // What the reader says after it moved on from block number `at`.
 fn after(src: &[u8], at: usize) -> Step
     ensures { λ r. ⌜ r ≡ stepAt (now (src .entry)) (nextAt (now (src .entry)) at) ⌝ }
 {
-    recording::next(recording::moved_on(Reader { src, at }))
+    reader::next(reader::moved_on(Reader { src, at }))
 }
 
 // Writes out the bytes from a place on.
@@ -61,7 +61,7 @@ struct Onward {
 
 // Plays a whole block and prints the line of what the reader says of it.
 fn list(p: Player, s: Step, before: usize, block: &[u8], samples: &mut [i16]) -> Onward {
-    let played = recording::play(p, block, samples);
+    let played = player::play(p, block, samples);
     let next = played.next;
     let printed = print(line(s, played.first, played.last, played.limited, before));
     if played.number != 0 {
@@ -84,7 +84,7 @@ fn finish(s: Step, before: usize) {
 // Walks over the whole blocks and to the end.
 fn run(src: &[u8]) {
     let mut samples = [0i16; 960];
-    let mut p = recording::start();
+    let mut p = player::start();
     let mut s = first(src);
     let mut at: usize = 0;
     while at < src.len() / 512 {

@@ -7,7 +7,7 @@ use borrow.Author.Needs.{needs}
 use borrow.Author.Tests.{eqb-true, eqb-false, not-true, not-false}
 use Rattle.laws.specs.Order.{no}
 use Rattle.block.specs.Check.{check}
-use Rattle.block.specs.Layout.{twoAt}
+use Rattle.big_endian.specs.Numbers.{twoAt}
 use Rattle.block.specs.Calls.{wellFormed}
 use Rattle.block.specs.Formed.{formed-bytes, formed-within}
 use Rattle.block.specs.Numbers.{read-6, read-7, read-8, read-done}
@@ -21,7 +21,7 @@ returns c = c .refused .ensures ∙ sym (read-6 _ (c .before .if1 .taken))
 tested : (c : tie.After-well-formed)
     → let b = c .before .before .before .before .before .before .args .b .now in
     eqb (c .before .before .check .result) (c .before .two-at .result) ≡ eqb (check (take 510 b)) (twoAt b 510)
-tested c = ap₂ eqb (c .before .before .check .ensures) (c .before .two-at .ensures .0)
+tested c = ap₂ eqb (c .before .before .check .ensures) (c .before .two-at .ensures)
 
 returns-2 : tie.Need-returns-2
 returns-2 c =
@@ -62,16 +62,15 @@ read-spec =
     (λ c. search needs)
     (λ c. search needs)
     (λ c κs. tt)
-    (λ c. search needs)
-    (λ c κs. search needs)
+    (λ c κs. tt)
     (λ c κs. search needs)
     (λ c κs. tt)
     returns-2
     (λ c κs. tt)
     returns-3
     (λ c. search needs)
-    (λ c κs. search needs)
-    (λ c κs. search needs)
-    (λ c κs. search needs)
+    (λ c κs. tt)
+    (λ c κs. tt)
+    (λ c κs. tt)
     (λ c. search needs)
     returns-4)

@@ -15,7 +15,7 @@ returns : tie.Need-returns
 unfolding wellFormed
 returns c =
     let d = c .before in
-    rw (← d .before .before .two-at .ensures .0, sym (d .allowed .ensures) ∙ not-true _ (c .if1 .taken))
+    rw (← d .before .before .two-at .ensures, sym (d .allowed .ensures) ∙ not-true _ (c .if1 .taken))
 
 -- the mode and the count are allowed
 within : (c : tie.Else1) → let t = c .before .before .before in
@@ -28,7 +28,7 @@ returns-2 c =
     let d = c .before .before in
     let b = d .before .before .before .before .before .args .b .now in
     let nine : eqb (getD b 9 0) 0 ≡ false = ne-eqb _ 0 (c .if2 .taken) in
-    rw (← d .before .before .before .two-at .ensures .0, within d, nine)
+    rw (← d .before .before .before .two-at .ensures, within d, nine)
 
 -- so the octets end before the check
 sub-all-zero : tie.Need-sub-all-zero
@@ -41,13 +41,13 @@ returns-3 c =
     let d = e .before .before in
     let b = d .before .before .before .before .before .args .b .now in
     let nine : eqb (getD b 9 0) 0 ≡ true = eq-eqb _ 0 (e .if2 .left) in
-    rw (← d .before .before .before .two-at .ensures .0, within d, nine) (c .all-zero .ensures)
+    rw (← d .before .before .before .two-at .ensures, within d, nine) (c .all-zero .ensures)
 
 pub well-formed-spec : {M : Type 1} → statement M
 well-formed-spec =
     tie.close
     (tie.spec
-    (λ c κs. search needs)
+    (λ c κs. tt)
     (λ c. search needs)
     (λ c. search needs)
     (λ c κs. tt)

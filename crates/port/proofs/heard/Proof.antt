@@ -5,7 +5,7 @@ use Rattle.laws.specs.Back.{back16}
 use Rattle.g722.specs.Arithmetic.{limited}
 use Rattle.g722.specs.Decoding.{rlOf, rhOf}
 use Rattle.g722.specs.Steps.{bandAfter, heardAfter}
-use Rattle.decoder.specs.Step.{lowHeard, highHeard}
+use Rattle.plain.specs.Step.{lowHeard, highHeard}
 use Rattle.conference.specs.Ports.{rlFrom, rhFrom, decoderFrom}
 use Rattle.port.specs.Step.{heardOf}
 use Rattle.port.proofs.heard.Statement.{statement}

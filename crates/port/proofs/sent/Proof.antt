@@ -1,7 +1,7 @@
 -- `port::sent` meets its contract, by that of both sub-band coders.
 use mathlib.Core.Path.{_∙_}
 use Rattle.laws.specs.Back.{back16}
-use Rattle.coder.specs.Step.{bandsCoded}
+use Rattle.plain.specs.Step.{bandsCoded}
 use Rattle.conference.specs.Ports.{octetTo, coderTo}
 use Rattle.port.specs.Step.{sentOf}
 use Rattle.port.proofs.sent.Statement.{statement}

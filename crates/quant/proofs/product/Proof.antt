@@ -5,7 +5,7 @@ use mir.Val.{toZ, ofZ}
 use mir.Facts.{toZ-ofZ}
 use Rattle.laws.specs.Back.{widened}
 use Rattle.laws.specs.Size.{product-fits, shr-fits}
-use Rattle.tables.specs.Unstopped.{unstopped}
+use Rattle.quant.specs.Unstopped.{unstopped}
 use Rattle.quant.proofs.product.Statement.{statement}
 use Rattle.quant.proofs.product.Tie as tie
 

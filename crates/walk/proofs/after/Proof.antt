@@ -43,21 +43,21 @@ use denote.Triple.Table.{entered, cited}
 use denote.Triple.Walked.{says, Stays, stay-none, stay-none-slice, walkOf, goes-none, goes-none-slice, Walks, ends-at, walked, walk-meets}
 use denote.Exit.{yes}
 use denote.Triple.Clauses.{ensured, lasts}
-use Rattle.recording.specs.Walk.{stepAt, nextAt}
-use Rattle.recording.specs.declared.Reader.{Reader}
-use Rattle.recording.specs.declared.Step.{Step}
-use Rattle.recording.proofs.Reader as T
-use Rattle.recording.proofs.Reader.Laws as T′
-use Rattle.recording.proofs.Step as S
-use Rattle.recording.proofs.Step.Laws as S′
-use Rattle.recording.proofs.moved_on as moved-on
-use Rattle.recording.proofs.moved_on.Symbol as moved-on-def
-use Rattle.recording.proofs.moved_on.Symbol.{name as #recording·moved-on}
-use Rattle.recording.proofs.moved_on.Met as moved-on-thm
-use Rattle.recording.proofs.next as next
-use Rattle.recording.proofs.next.Symbol as next-def
-use Rattle.recording.proofs.next.Symbol.{name as #recording·next}
-use Rattle.recording.proofs.next.Met as next-thm
+use Rattle.reader.specs.Walk.{stepAt, nextAt}
+use Rattle.reader.specs.declared.Reader.{Reader}
+use Rattle.reader.specs.declared.Step.{Step}
+use Rattle.reader.proofs.Reader as T
+use Rattle.reader.proofs.Reader.Laws as T′
+use Rattle.reader.proofs.Step as S
+use Rattle.reader.proofs.Step.Laws as S′
+use Rattle.reader.proofs.moved_on as moved-on
+use Rattle.reader.proofs.moved_on.Symbol as moved-on-def
+use Rattle.reader.proofs.moved_on.Symbol.{name as #reader·moved-on}
+use Rattle.reader.proofs.moved_on.Met as moved-on-thm
+use Rattle.reader.proofs.next as next
+use Rattle.reader.proofs.next.Symbol as next-def
+use Rattle.reader.proofs.next.Symbol.{name as #reader·next}
+use Rattle.reader.proofs.next.Met as next-thm
 use Rattle.walk.proofs.after.Key.{name as #walk·after}
 use Rattle.walk.proofs.after as after
 use Rattle.walk.proofs.after.Statement as stated
@@ -156,8 +156,8 @@ module _ {M : Type 1} (𝓤 : URA M) (H : Heap 𝓤) (A : Atoms 𝓤) (W : Given
       move ! (1 ∷ []) $ frame ! $ nothing ! $ owned ! usize (Is usize) (uint-makes 𝓤 H A W w64) n _ (refl, ok) $ fjoin ! $
       move ! (2 ∷ 0 ∷ []) $ fjoin ! $ frame ! $ done !
 
-  module _ (C : Calls 𝓤 H) (Λ : Loops 𝓤 H) (fm : FmC 𝓤 H (W .laws) C) (known-moved-on : Triple 𝓤 (C #recording·moved-on)
-      (MovedOn 𝓤 H A mem run)) (known-next : Triple 𝓤 (C #recording·next) (Next 𝓤 H A mem run)) where
+  module _ (C : Calls 𝓤 H) (Λ : Loops 𝓤 H) (fm : FmC 𝓤 H (W .laws) C) (known-moved-on : Triple 𝓤 (C #reader·moved-on)
+      (MovedOn 𝓤 H A mem run)) (known-next : Triple 𝓤 (C #reader·next) (Next 𝓤 H A mem run)) where
     walk : Is (ShrSlice (named 0) κ u8) s (v ∷ []) → ent 𝓤 (onEntry 𝓤 H A after.signature (κ, tt) (q, tt) (s, (n, tt)) at)
         (WpFn 𝓤 H C Λ code.function (v ∷ vint w64 n ∷ []) Post)
     walk p =
@@ -201,8 +201,8 @@ module _ {M : Type 1} (𝓤 : URA M) (H : Heap 𝓤) (A : Atoms 𝓤) (W : Given
         by ! (exits t u′ (e′ ∙ (ap (λ (x : RefT (List ℕ)). stepAt (now x) (r .at)) (e .0) ∙ ap (stepAt (now s)) (e .1)))))))))))))))))
 
 module _ {M : Type 1} (𝓤 : URA M) (H : Heap 𝓤) (A : Atoms 𝓤) (W : Given 𝓤 H A) (mem : Memory → SProp 𝓤) (run : Routine → Fun 𝓤) where
-  after-walks : (C : Calls 𝓤 H) (Λ : Loops 𝓤 H) → FmC 𝓤 H (W .laws) C → Triple 𝓤 (C #recording·moved-on) (MovedOn 𝓤 H A mem run)
-      → Triple 𝓤 (C #recording·next) (Next 𝓤 H A mem run)
+  after-walks : (C : Calls 𝓤 H) (Λ : Loops 𝓤 H) → FmC 𝓤 H (W .laws) C → Triple 𝓤 (C #reader·moved-on) (MovedOn 𝓤 H A mem run)
+      → Triple 𝓤 (C #reader·next) (Next 𝓤 H A mem run)
       → Walks 𝓤 H A after.ended stayed (WpFn 𝓤 H C Λ code.function) (after.clauses 𝓤 H A mem run)
   after-walks C Λ fm known-moved-on known-next = walked 𝓤 H A after.ended stayed (after.clauses 𝓤 H A mem run)
       (WpFn 𝓤 H C Λ code.function) (λ κs. (slice-vals, (uint-vals w64, tt))) (λ κs. (
@@ -215,7 +215,7 @@ module _ {M : Type 1} (𝓤 : URA M) (H : Heap 𝓤) (A : Atoms 𝓤) (W : Given
 
 after-meets : {M : Type 1} (𝓤 : URA M) (H : Heap 𝓤) (A : Atoms 𝓤) (W : Given 𝓤 H A) (mem : Memory → SProp 𝓤) (run : Routine
     → Fun 𝓤) (𝓣 : Tables 𝓤 H)
-    → Triple 𝓤 (𝓣 .C #recording·moved-on) (MovedOn 𝓤 H A mem run) → Triple 𝓤 (𝓣 .C #recording·next) (Next 𝓤 H A mem run)
+    → Triple 𝓤 (𝓣 .C #reader·moved-on) (MovedOn 𝓤 H A mem run) → Triple 𝓤 (𝓣 .C #reader·next) (Next 𝓤 H A mem run)
     → Meets 𝓤 H A after.signature (WpFn 𝓤 H (𝓣 .C) (𝓣 .Λ) code.function) (after.spec 𝓤 H A mem run)
 after-meets 𝓤 H A W mem run 𝓣 known-moved-on known-next = walk-meets 𝓤 H A after.ended stayed W (
   goes-none-slice 𝓤 H A W 1 (0 ∷ []) tt
@@ -231,7 +231,7 @@ after-spec 𝓤 H 𝓜 𝓖 𝓡 =
     entered 𝓤 H (tripleOf 𝓤 H (𝓖 .A) after.signature (after.spec 𝓤 H (𝓖 .A) (𝓜 .mem) (𝓡 .run)))
     (tables 𝓤 H 𝓜 𝓡 code.env .C) (tables 𝓤 H 𝓜 𝓡 code.env .Λ) #walk·after code.function (code.unfolded 𝓤 H 𝓜 𝓡)
     (after-meets 𝓤 H (𝓖 .A) (givenOf 𝓤 H 𝓜 𝓖) (𝓜 .mem) (𝓡 .run) (tablesOf 𝓤 H 𝓜 (tables 𝓤 H 𝓜 𝓡 code.env))
-    (cited 𝓤 H (MovedOn 𝓤 H (𝓖 .A) (𝓜 .mem) (𝓡 .run)) 𝓜 𝓡 code.env #recording·moved-on moved-on-def.routine code.calls-recording·moved-on
+    (cited 𝓤 H (MovedOn 𝓤 H (𝓖 .A) (𝓜 .mem) (𝓡 .run)) 𝓜 𝓡 code.env #reader·moved-on moved-on-def.routine code.calls-reader·moved-on
     (moved-on-thm.met 𝓤 H 𝓜 𝓖 𝓡))
-    (cited 𝓤 H (Next 𝓤 H (𝓖 .A) (𝓜 .mem) (𝓡 .run)) 𝓜 𝓡 code.env #recording·next next-def.routine code.calls-recording·next (next-thm.met 𝓤
+    (cited 𝓤 H (Next 𝓤 H (𝓖 .A) (𝓜 .mem) (𝓡 .run)) 𝓜 𝓡 code.env #reader·next next-def.routine code.calls-reader·next (next-thm.met 𝓤
     H 𝓜 𝓖 𝓡)))

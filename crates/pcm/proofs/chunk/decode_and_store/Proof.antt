@@ -2,7 +2,7 @@
 use mathlib.Core.Path.{refl, ap, _∙_}
 use native.Mathlib.Omega.{arith}
 use Rattle.laws.specs.Outcome.{does}
-use Rattle.pcm.specs.Bytes.{pcmBytes, store-all}
+use Rattle.big_endian.specs.Bytes.{pcmBytes, store-all}
 use Rattle.pcm.specs.Chunks.{asBytes}
 use Rattle.pcm.proofs.Calls.{decode-done, decode-refused}
 use borrow.Author.Needs.{needs}

@@ -5,7 +5,7 @@ use native.Mathlib.Omega.{arith}
 use lib.IntN.{ℤ}
 use Rattle.laws.specs.Outcome.{does}
 use Rattle.g722.specs.Coding.{codeCall}
-use Rattle.pcm.specs.Bytes.{load-all}
+use Rattle.big_endian.specs.Bytes.{load-all}
 use borrow.Author.Needs.{needs}
 use Rattle.pcm.proofs.chunk.load_and_code.Statement.{statement}
 use Rattle.pcm.proofs.chunk.load_and_code.Tie as tie

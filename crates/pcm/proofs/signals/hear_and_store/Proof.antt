@@ -3,7 +3,7 @@ use mathlib.Core.Path.{refl, _∙_}
 use native.Mathlib.Omega.{arith}
 use Rattle.laws.specs.Outcome.{does}
 use Rattle.g722.specs.Steps.{hearCall}
-use Rattle.pcm.specs.Bytes.{store-all}
+use Rattle.big_endian.specs.Bytes.{store-all}
 use Rattle.pcm.specs.Signals.{bothAsBytes}
 use Rattle.pcm.proofs.Steps.{hear-done, hear-refused, both-stored}
 use borrow.Author.Needs.{needs}

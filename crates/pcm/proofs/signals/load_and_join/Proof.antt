@@ -6,7 +6,7 @@ use lib.IntN.{ℤ}
 use lib.ListN.{length}
 use Rattle.laws.specs.Outcome.{Does, does}
 use Rattle.g722.specs.Steps.{joinCall}
-use Rattle.pcm.specs.Bytes.{pcmSamples, pcmBytes, load-all, store-all}
+use Rattle.big_endian.specs.Bytes.{pcmSamples, pcmBytes, load-all, store-all}
 use Rattle.pcm.specs.Chunks.{asBytes}
 use Rattle.pcm.proofs.Steps.{join-done, join-refused}
 use borrow.Author.Needs.{needs}

@@ -8,7 +8,7 @@ use mir.Val.{toZ, ofZ}
 use mir.Facts.{toZ-ofZ}
 use Rattle.laws.specs.Back.{got16, got32}
 use Rattle.g722.specs.Arithmetic.{neg}
-use Rattle.tables.specs.Unstopped.{mul-comm}
+use Rattle.quant.specs.Unstopped.{mul-comm}
 use Rattle.quant.proofs.Laws.{eight-small, eight-fits, eight-sfits, eight-read, signed-small, small-fits, mul-fits}
 use Rattle.quant.proofs.inverse.inverse.Statement.{statement}
 use Rattle.quant.proofs.inverse.inverse.Tie as tie

@@ -8,7 +8,7 @@ use lib.Signed.{mag}
 use mir.Syntax.{w16}
 use mir.Val.{toZ, ofZ}
 use Rattle.laws.specs.Back.{back16}
-use Rattle.pcm.specs.Bytes.{pcmSamples}
+use Rattle.big_endian.specs.Bytes.{pcmSamples}
 use Rattle.state.specs.Layout.{value}
 use Rattle.state.proofs.Laws.{values-at, band-read}
 use borrow.Author.Needs.{needs}

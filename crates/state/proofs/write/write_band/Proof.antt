@@ -8,7 +8,7 @@ use lib.ListN.{length}
 use borrow.Author.Needs.{needs}
 use borrow.Rule.Slice.PartMut.{midOf, putMid}
 use Rattle.laws.specs.Back.{back16}
-use Rattle.pcm.specs.Bytes.{storeCall}
+use Rattle.big_endian.specs.Bytes.{storeCall}
 use Rattle.state.proofs.Laws.{Front, stored, band-written}
 use Rattle.state.proofs.write.write_band.Statement.{statement}
 use Rattle.state.proofs.write.write_band.Tie as tie

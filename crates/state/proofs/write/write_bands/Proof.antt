@@ -6,7 +6,7 @@ use native.Mathlib.Omega.{arith}
 use lib.ListN.{length, set, length-set}
 use borrow.Author.Needs.{needs}
 use borrow.Rule.Slice.PartMut.{putMid}
-use Rattle.pcm.specs.Bytes.{pcmBytes, bytes-join}
+use Rattle.big_endian.specs.Bytes.{bytes-join}
 use Rattle.state.specs.Layout.{bandValues}
 use Rattle.state.proofs.Laws.{Front, first, further}
 use Rattle.state.proofs.write.write_bands.Statement.{statement}

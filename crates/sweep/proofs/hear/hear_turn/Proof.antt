@@ -11,7 +11,7 @@ use Rattle.laws.specs.Back.{back16, back32, got16, got32}
 use Rattle.laws.specs.Size.{sum-fits}
 use Rattle.g722.specs.Arithmetic.{stop, add, mul}
 use Rattle.g722.specs.Band.{filtep}
-use Rattle.tables.specs.Signed.{outputs-at, output-small}
+use Rattle.at_hand.specs.Signed.{outputs-at, output-small}
 use Rattle.idle.specs.Recursive.{polesOf}
 use Rattle.idle.specs.Factors.{factorsOf}
 use Rattle.sweep.specs.Turn.{stepBy}

@@ -10,7 +10,7 @@ use mir.Val.{toZ, ofZ}
 use mir.Facts.{toZ-ofZ}
 use Rattle.laws.specs.Back.{widened}
 use Rattle.laws.specs.Size.{fits-abs, abs-mul, abs-mag, mag-abs, shr-fits}
-use Rattle.tables.specs.Unstopped.{mul-plain}
+use Rattle.quant.specs.Unstopped.{mul-plain}
 use Rattle.idle.specs.Recursive.{scaled-abs}
 use Rattle.sweep.proofs.turn.inverse.Statement.{statement}
 use Rattle.sweep.proofs.turn.inverse.Tie as tie

@@ -13,7 +13,7 @@ use Rattle.laws.specs.Back.{back16, back32, got32}
 use Rattle.laws.specs.Size.{sum-fits, abs-add, abs-mag}
 use Rattle.g722.specs.Arithmetic.{stop, add, mul}
 use Rattle.g722.specs.Band.{nextPoles}
-use Rattle.tables.specs.Signed.{outputAt, outputs-at, output-small, weights-at}
+use Rattle.at_hand.specs.Signed.{outputAt, outputs-at, output-small, weights-at}
 use Rattle.idle.specs.Recursive.{polesOf}
 use Rattle.idle.specs.Factors.{factorsOf, weighed}
 use Rattle.sweep.specs.Turn.{stepOf, stepBy}

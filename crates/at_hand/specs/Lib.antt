@@ -1,0 +1,2 @@
+-- The outputs and the weights by the word itself.
+pub mod Signed

@@ -1,0 +1,3 @@
+-- What the proofs here share, and the table of answers.
+pub mod Turns
+pub mod Unique

@@ -1,0 +1,3 @@
+-- What the proofs here share, and the table of answers.
+pub mod Laws
+pub mod Unique

@@ -1,0 +1,2 @@
+-- What the blocks of both ends give back.
+pub mod Step

@@ -1,0 +1,2 @@
+-- Where a product is not stopped.
+pub mod Unstopped

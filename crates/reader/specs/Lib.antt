@@ -1,0 +1,3 @@
+-- The walk of a recording, and what follows of it.
+pub mod Walk
+pub mod Stays

@@ -1,0 +1,2 @@
+-- What this crate proves of its functions together.
+pub mod Unique
