@@ -2,7 +2,8 @@
 
 crates/CRATE/must-fail/NAME.edit is one error, with all its pairs of an `old:` and a `new:` line. A file sweep*.edit has many that are
 tried at once: each pair is one by itself, but a line `# name: NAME` begins one of that name, with the pairs down to an empty line.
-A line `# at: PLACE` above a pair says which declaration of its function's proof refuses it. Only so may one file have two of a function.
+A line `# at: PLACE` above a pair says which declaration of its function's proof, or which theorem, refuses it. Only so may one file have
+two of a function.
 """
 import pathlib
 import re
@@ -104,23 +105,27 @@ def crowded(errors):
 
 
 def told_by(log, texts):
-    """The statements of the theorems and cases that a log has an error of their own in."""
+    """The theorems and cases that a log has an error of their own in, each with its statement."""
     for file, name in re.findall(r"/((?:specs|proofs)/\w+)\.antt:\d+:\d+: error: `([\w-]+)`(?!.*was not admitted)", log):
         stated = re.search(rf"^ *(unfoldable |abbrev )?(?:pub )?{name} :\s.*?\n\n", texts[f"{file}.antt"] + "\n\n", re.M | re.S)
         if stated and not stated[1]:
-            yield stated[0]
+            yield name, stated[0]
 
 
-def places(log, owner):
-    """The declarations of a function's proof that a log has an error of their own in."""
+def places(log, texts, owner):
+    """Where a log has errors of their own: declarations of a function's proof, or for a definition theorems and cases."""
+    if owner.startswith("="):
+        return {name for name, _ in told_by(log, texts)}
     return {*re.findall(rf"/proofs/{owner}/[^/\n]*\.antt:\d+:\d+: error: `([^`]+)`(?!.*was not admitted)", log)}
 
 
-def refused(log, texts, crate, owner):
-    """Whether a log has a function refused by an error of its own, or a definition by a theorem or case that names it. A contract that
-    promises less has its proof still, and its entry in Unique refuses it."""
+def refused(log, texts, crate, owner, others):
+    """Whether a log has a function refused by an error of its own, or a definition by a theorem or case that names it. A theorem that is
+    itself one of the others that were changed speaks for itself alone. A contract that promises less has its proof still, and its entry in
+    Unique refuses it."""
     if owner.startswith("="):
-        return any(re.search(rf"(?<![\w-]){owner[1:]}(?![\w-])", stated) for stated in told_by(log, texts))
+        named = re.compile(rf"(?<![\w-]){owner[1:]}(?![\w-])")
+        return any(named.search(stated) for name, stated in told_by(log, texts) if "=" + name not in others)
     entry = owner.rpartition("/")[2].replace("_", "-")
     if re.search(rf"/proofs/Unique\.antt:\d+:\d+: error: `{entry}`(?!.*was not admitted)", log):
         return True
@@ -131,10 +136,11 @@ def refused(log, texts, crate, owner):
     return verdict[1].startswith("not proved") and any("was not admitted" not in error for error in errors)
 
 
-def idle(log, texts, crate, error, alone):
-    """What of an error a log does not show refused: of changed definitions one has to be, of functions each, at the place that is said.
-    Where an error was tried alone, whatever theorem or case is refused is refused for it."""
+def idle(log, texts, crate, error, beside):
+    """What of an error a log does not show refused, where those beside it were tried with it: of changed definitions one has to be, of
+    functions each, at the place that is said. Where an error was tried alone, whatever theorem or case is refused is refused for it."""
     owned = belongs(error) or ["nothing that it belongs to"]
-    left = [o for o in owned if not refused(log, texts, crate, o) or error.places and not error.places <= places(log, o)]
+    others = {o for e in beside for o in belongs(e) if o.startswith("=")} - {*owned}
+    left = [o for o in owned if not refused(log, texts, crate, o, others) or error.places and not error.places <= places(log, texts, o)]
     meant = owned[0].startswith("=")
-    return [] if meant and (len(left) < len(owned) or alone and any(told_by(log, texts))) else left
+    return [] if meant and (len(left) < len(owned) or not beside and any(told_by(log, texts))) else left
