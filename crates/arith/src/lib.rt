@@ -2,7 +2,7 @@
 ghost use Rattle.std.specs.Prelude.{◌≡◌, cond};
 ghost use Rattle.std.specs.Int.Signed.{mag};
 ghost use Rattle.laws.specs.Clamp.{clamp};
-ghost use Rattle.g722.specs.Arithmetic.{add, sub, mul, sameSign, within, equal, limited, one, changes};
+ghost use Rattle.g722.specs.Arithmetic.{add, sub, mul, same_sign, within, equal, limited, one, changes};
 
 use g722::Limited;
 
@@ -88,7 +88,7 @@ pub fn size(x: i16) -> u16
 
 // Whether a and b have one sign, 0 being positive.
 pub fn same_sign(a: i16, b: i16) -> bool
-    ensures { result ≡ sameSign a b }
+    ensures { result ≡ same_sign a b }
 {
     if a < 0 {
         return b < 0;

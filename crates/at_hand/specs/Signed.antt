@@ -7,10 +7,10 @@ use Rattle.laws.specs.Every.{each}
 use Rattle.laws.specs.Size.{abs_neg}
 use Rattle.g722.specs.Arithmetic.{neg, mul}
 use Rattle.g722.specs.Tables.{qq6, qq5, qq4, qq2, wl, wh}
-use Rattle.g722.specs.Words.{fromSix, fromFive, fromFour, fromTwo}
+use Rattle.g722.specs.Words.{from_six, from_five, from_four, from_two}
 use Rattle.g722.specs.Quantise.{inverse, invqah, invqbl}
 use Rattle.g722.specs.declared.Interval.{Interval}
-use Rattle.tables.specs.Entries.{entry-small}
+use Rattle.tables.specs.Entries.{entry_small}
 
 -- f at the n numbers from i on
 abbrev pub listed : {A : Type 0} → (ℕ → A) → ℕ → ℕ → List A
@@ -34,66 +34,66 @@ signed_of qq v = cond v.negative (neg (get_or qq v.number 0 * 8)) (pos (get_or q
 
 -- the output of a word of six bits. The high band's two bits stand above two that do not count, and in the low band the mode says how many
 -- bits count, as in INVQBL
-unfoldable pub outputAt : Bool → ℕ → ℕ → ℤ
-outputAt high mode w =
-    cond high (signed_of qq2 (fromTwo (w / 4)))
-    (cond (eqb mode 1) (signed_of qq6 (fromSix w))
-    (cond (eqb mode 2) (signed_of qq5 (fromFive (w / 2)))
-    (signed_of qq4 (fromFour (w / 4)))))
+unfoldable pub output_at : Bool → ℕ → ℕ → ℤ
+output_at high mode w =
+    cond high (signed_of qq2 (from_two (w / 4)))
+    (cond (eqb mode 1) (signed_of qq6 (from_six w))
+    (cond (eqb mode 2) (signed_of qq5 (from_five (w / 2)))
+    (signed_of qq4 (from_four (w / 4)))))
 
 -- those of the words 0 to 63
-unfoldable pub outputsOf : Bool → ℕ → List ℤ
-outputsOf high mode = listed (outputAt high mode) 0 64
+unfoldable pub outputs_of : Bool → ℕ → List ℤ
+outputs_of high mode = listed (output_at high mode) 0 64
 
-pub outputs-at : (high : Bool) (mode w : ℕ) → w < 64 → get_or (outputsOf high mode) w (pos 0) ≡ outputAt high mode w
-unfolding outputsOf
-outputs-at high mode w h = listed_at (outputAt high mode) (pos 0) 64 w h
+pub outputs_at : (high : Bool) (mode w : ℕ) → w < 64 → get_or (outputs_of high mode) w (pos 0) ≡ output_at high mode w
+unfolding outputs_of
+outputs_at high mode w h = listed_at (output_at high mode) (pos 0) 64 w h
 
 -- they are what the inverse quantisers multiply the scale by
-pub invqah-by : (mode w : ℕ) (det : ℤ) → mul det (outputAt true mode w) ≡ invqah (w / 4) det
-unfolding outputAt signed_of invqah inverse
-invqah-by mode w det = refl
+pub invqah_by : (mode w : ℕ) (det : ℤ) → mul det (output_at true mode w) ≡ invqah (w / 4) det
+unfolding output_at signed_of invqah inverse
+invqah_by mode w det = refl
 
 into : (det : ℤ) (t : Bool) (a b : ℤ) → mul det (cond t a b) ≡ cond t (mul det a) (mul det b)
 into det true a b = refl
 into det false a b = refl
 
-pub invqbl-by : (mode w : ℕ) (det : ℤ) → mul det (outputAt false mode w) ≡ invqbl mode w det
-unfolding outputAt signed_of invqbl inverse
-invqbl-by mode w det =
-    into det (eqb mode 1) _ _ ∙ ap (cond (eqb mode 1) (inverse qq6 (fromSix w) det)) (into det (eqb mode 2) _ _)
+pub invqbl_by : (mode w : ℕ) (det : ℤ) → mul det (output_at false mode w) ≡ invqbl mode w det
+unfolding output_at signed_of invqbl inverse
+invqbl_by mode w det =
+    into det (eqb mode 1) _ _ ∙ ap (cond (eqb mode 1) (inverse qq6 (from_six w) det)) (into det (eqb mode 2) _ _)
 
 -- no output is above 8 times 3101, nor below as much
-signed-size : (t : Bool) (n : ℕ) → nat_abs (cond t (neg n) (pos n)) ≡ n
-signed-size true n = abs_neg (pos n)
-signed-size false n = refl
+signed_size : (t : Bool) (n : ℕ) → nat_abs (cond t (neg n) (pos n)) ≡ n
+signed_size true n = abs_neg (pos n)
+signed_size false n = refl
 
-signed-small : (qq : List ℕ) → T (each (λ k q. leb q 3101) 0 qq) → (v : Interval) → nat_abs (signed_of qq v) ≤ 24808
+signed_small : (qq : List ℕ) → T (each (λ k q. leb q 3101) 0 qq) → (v : Interval) → nat_abs (signed_of qq v) ≤ 24808
 unfolding signed_of
-signed-small qq t v = omega (arith, signed-size v.negative (get_or qq v.number 0 * 8), entry-small 3101 qq t v.number)
+signed_small qq t v = omega (arith, signed_size v.negative (get_or qq v.number 0 * 8), entry_small 3101 qq t v.number)
 
-chosen-small : (m : ℕ) (t : Bool) (a b : ℤ) → nat_abs a ≤ m → nat_abs b ≤ m → nat_abs (cond t a b) ≤ m
-chosen-small m true a b h k = h
-chosen-small m false a b h k = k
+chosen_small : (m : ℕ) (t : Bool) (a b : ℤ) → nat_abs a ≤ m → nat_abs b ≤ m → nat_abs (cond t a b) ≤ m
+chosen_small m true a b h k = h
+chosen_small m false a b h k = k
 
-pub output-small : (high : Bool) (mode w : ℕ) → nat_abs (outputAt high mode w) ≤ 24808
-unfolding outputAt qq6 qq5 qq4 qq2
-output-small high mode w =
-    chosen-small 24808 high _ _ (signed-small qq2 tt (fromTwo (w / 4)))
-    (chosen-small 24808 (eqb mode 1) _ _ (signed-small qq6 tt (fromSix w))
-    (chosen-small 24808 (eqb mode 2) _ _ (signed-small qq5 tt (fromFive (w / 2)))
-    (signed-small qq4 tt (fromFour (w / 4)))))
+pub output_small : (high : Bool) (mode w : ℕ) → nat_abs (output_at high mode w) ≤ 24808
+unfolding output_at qq6 qq5 qq4 qq2
+output_small high mode w =
+    chosen_small 24808 high _ _ (signed_small qq2 tt (from_two (w / 4)))
+    (chosen_small 24808 (eqb mode 1) _ _ (signed_small qq6 tt (from_six w))
+    (chosen_small 24808 (eqb mode 2) _ _ (signed_small qq5 tt (from_five (w / 2)))
+    (signed_small qq4 tt (from_four (w / 4)))))
 
 -- ---- the weights
 
 -- the weight of the upper four bits of a word; in the high band these are its two bits
-unfoldable pub weightAt : Bool → ℕ → ℤ
-weightAt high k = cond high (get_or wh (fromTwo k).number (pos 0)) (get_or wl (fromFour k).number (pos 0))
+unfoldable pub weight_at : Bool → ℕ → ℤ
+weight_at high k = cond high (get_or wh (from_two k).number (pos 0)) (get_or wl (from_four k).number (pos 0))
 
 -- those of 0 to 15
-unfoldable pub weightsOf : Bool → List ℤ
-weightsOf high = listed (weightAt high) 0 16
+unfoldable pub weights_of : Bool → List ℤ
+weights_of high = listed (weight_at high) 0 16
 
-pub weights-at : (high : Bool) (k : ℕ) → k < 16 → get_or (weightsOf high) k (pos 0) ≡ weightAt high k
-unfolding weightsOf
-weights-at high k h = listed_at (weightAt high) (pos 0) 16 k h
+pub weights_at : (high : Bool) (k : ℕ) → k < 16 → get_or (weights_of high) k (pos 0) ≡ weight_at high k
+unfolding weights_of
+weights_at high k h = listed_at (weight_at high) (pos 0) 16 k h

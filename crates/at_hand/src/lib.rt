@@ -1,7 +1,7 @@
 // Table 14 by the code word itself, with its signs: what a loop over code words lends, so that a turn is one read.
 ghost use Rattle.std.specs.Prelude.{◌≡◌};
 ghost use Rattle.g722.specs.Tables.{ilb};
-ghost use Rattle.at_hand.specs.Signed.{outputsOf, weightsOf};
+ghost use Rattle.at_hand.specs.Signed.{outputs_of, weights_of};
 
 // The outputs of the low band by the six bits of a word: QQ6 with the signs of Table 18, eight times.
 const SIX: [i16; 64] = [
@@ -112,7 +112,7 @@ const ILB: [u16; 32] = [
 // The outputs of the inverse quantisers by the six bits of a word, with their signs and eight times: what WD2 is. The high band's two
 // bits stand above two that do not count.
 pub fn outputs(high: bool, mode: u8) -> [i16; 64]
-    ensures { result ≡ outputsOf high mode }
+    ensures { result ≡ outputs_of high mode }
 {
     if high {
         return TWO;
@@ -128,7 +128,7 @@ pub fn outputs(high: bool, mode: u8) -> [i16; 64]
 
 // The weights of the log factors by a word's upper four bits.
 pub fn weights(high: bool) -> [i16; 16]
-    ensures { result ≡ weightsOf high }
+    ensures { result ≡ weights_of high }
 {
     if high {
         return HIGH;

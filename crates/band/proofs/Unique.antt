@@ -21,11 +21,11 @@ uppol2 = equation (λ κs a l m. refl) (λ M. band.uppol2.Met.met)
 pub uppol1 : LeavesOne band.uppol1.ended (λ M. band.uppol1.clauses) band.uppol1.Symbol.routine
 uppol1 = equation (λ κs a l m. refl) (λ M. band.uppol1.Met.met)
 
-pub next-zeros : LeavesOne band.next_zeros.ended (λ M. band.next_zeros.clauses) band.next_zeros.Symbol.routine
-next-zeros = equation (λ κs a l m. refl) (λ M. band.next_zeros.Met.met)
+pub next_zeros : LeavesOne band.next_zeros.ended (λ M. band.next_zeros.clauses) band.next_zeros.Symbol.routine
+next_zeros = equation (λ κs a l m. refl) (λ M. band.next_zeros.Met.met)
 
-pub next-poles : LeavesOne band.next_poles.ended (λ M. band.next_poles.clauses) band.next_poles.Symbol.routine
-next-poles = equation (λ κs a l m. refl) (λ M. band.next_poles.Met.met)
+pub next_poles : LeavesOne band.next_poles.ended (λ M. band.next_poles.clauses) band.next_poles.Symbol.routine
+next_poles = equation (λ κs a l m. refl) (λ M. band.next_poles.Met.met)
 
 pub adapt : LeavesOne band.adapt.ended (λ M. band.adapt.clauses) band.adapt.Symbol.routine
 adapt = equation (λ κs a l m. refl) (λ M. band.adapt.Met.met)

@@ -3,7 +3,7 @@
 -- Assumes nothing.
 use Rattle.std.specs.Prelude.{◌≡◌, refl, ℤ}
 use Rattle.g722.specs.Arithmetic.{add}
-use Rattle.g722.specs.Band.{filtez, predic, parrec, recons, nextZeros, nextPoles, nextBand}
+use Rattle.g722.specs.Band.{filtez, predic, parrec, recons, next_zeros, next_poles, next_band}
 use Rattle.g722.specs.declared.Factors.{Factors}
 use Rattle.g722.specs.declared.Band.{Band}
 use Rattle.band.specs.declared.Estimates.{Estimates}
@@ -15,9 +15,9 @@ estimated s = record { sz = filtez s.zeros; s = predic s }
 -- the band after the quantised difference d, with its next factors f
 unfoldable pub adapted : Band → Estimates → ℤ → Factors → Band
 adapted s e d f =
-    record { zeros = nextZeros s.zeros d; poles = nextPoles s.poles (add d e.sz) (add e.s d); factors = f }
+    record { zeros = next_zeros s.zeros d; poles = next_poles s.poles (add d e.sz) (add e.s d); factors = f }
 
 -- the two halves make one turn
-pub halves : (s : Band) (d : ℤ) (f : Factors) → adapted s (estimated s) d f ≡ nextBand s d f
-unfolding estimated adapted nextBand parrec recons
+pub halves : (s : Band) (d : ℤ) (f : Factors) → adapted s (estimated s) d f ≡ next_band s d f
+unfolding estimated adapted next_band parrec recons
 halves s d f = refl

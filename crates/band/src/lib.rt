@@ -1,7 +1,7 @@
 // The adaptive predictor, block 4 of section 6.2: one for both bands and both ends.
 ghost use Rattle.std.specs.Prelude.{◌≡◌};
 ghost use mathlib.Core.List.{zip_with};
-ghost use Rattle.g722.specs.Band.{slide, term, filtez, filtep, gain, upzero, four, turned, uppol2, uppol1, nextZeros, nextPoles};
+ghost use Rattle.g722.specs.Band.{slide, term, filtez, filtep, gain, upzero, four, turned, uppol2, uppol1, next_zeros, next_poles};
 ghost use Rattle.band.specs.Loop.{estimated, adapted};
 
 use arith::{add, clamp, equal, mul, pick, same_sign, sub, wide};
@@ -130,7 +130,7 @@ fn slide(past: [i16; 6], d: i16) -> [i16; 6]
 
 // The transversal part after the difference d.
 pub fn next_zeros(z: Zeros, d: i16) -> Zeros
-    ensures { result ≡ nextZeros z d }
+    ensures { result ≡ next_zeros z d }
 {
     let past = z.d;
     let b = coefficients(z, d);
@@ -140,7 +140,7 @@ pub fn next_zeros(z: Zeros, d: i16) -> Zeros
 
 // The recursive part after the partial signal p and the reconstructed signal r.
 pub fn next_poles(s: Poles, p: i16, r: i16) -> Poles
-    ensures { result ≡ nextPoles s p r }
+    ensures { result ≡ next_poles s p r }
 {
     let a2 = uppol2(s, p);
     let a1 = uppol1(s, a2, p);

@@ -7,39 +7,39 @@ use native.Mathlib.Numerals.{add-one}
 use native.Mathlib.Omega.{arith}
 use lib.IntN.{ℤ, pos}
 use lib.ListN.{length, get_or, set}
-use Rattle.big_endian.specs.Bytes.{sampleOf, pcmSamples, high_of, low_of, pcmBytes, loaded, stored, two-more}
+use Rattle.big_endian.specs.Bytes.{sample_of, pcm_samples, high_of, low_of, pcm_bytes, loaded, stored, two_more}
 
-low-more : (i : ℕ) → 2 * suc i + 1 ≡ suc (suc (2 * i + 1))
-low-more i = omega arith
+low_more : (i : ℕ) → 2 * suc i + 1 ≡ suc (suc (2 * i + 1))
+low_more i = omega arith
 
-load-next : (i : ℕ) (b : List ℕ) (s : List ℤ) → 2 * i + 1 < length b → i < length s
-    → set (loaded i b s).left i (sampleOf (get_or b (2 * i) 0) (get_or b (2 * i + 1) 0)) ≡ (loaded (suc i) b s).left
-unfolding loaded pcmSamples
-load-next i [] s h k = absurd (omega arith)
-load-next i (high ∷ []) s h k = absurd (omega arith)
-load-next i (high ∷ low ∷ b) [] h k = absurd (omega arith)
-load-next zero (high ∷ low ∷ b) (x ∷ s) h k = refl
-load-next (suc i) (high ∷ low ∷ b) (x ∷ s) h k =
-    rw (low-more i, two-more (suc i), two-more i)
-    (ap (λ (l : List ℤ). sampleOf high low ∷ l) (rw (two-more i) at (load-next i b s (omega arith) (omega arith))))
+load_next : (i : ℕ) (b : List ℕ) (s : List ℤ) → 2 * i + 1 < length b → i < length s
+    → set (loaded i b s).left i (sample_of (get_or b (2 * i) 0) (get_or b (2 * i + 1) 0)) ≡ (loaded (suc i) b s).left
+unfolding loaded pcm_samples
+load_next i [] s h k = absurd (omega arith)
+load_next i (high ∷ []) s h k = absurd (omega arith)
+load_next i (high ∷ low ∷ b) [] h k = absurd (omega arith)
+load_next zero (high ∷ low ∷ b) (x ∷ s) h k = refl
+load_next (suc i) (high ∷ low ∷ b) (x ∷ s) h k =
+    rw (low_more i, two_more (suc i), two_more i)
+    (ap (λ (l : List ℤ). sample_of high low ∷ l) (rw (two_more i) at (load_next i b s (omega arith) (omega arith))))
 
-store-next : (i : ℕ) (s : List ℤ) (b : List ℕ) → i < length s → 2 * i + 1 < length b
+store_next : (i : ℕ) (s : List ℤ) (b : List ℕ) → i < length s → 2 * i + 1 < length b
     → set (set (stored i s b).left (2 * i) (high_of (get_or s i (pos 0)))) (2 * i + 1) (low_of (get_or s i (pos 0))) ≡ (stored (suc i) s b).left
-unfolding stored pcmBytes
-store-next i [] b h k = absurd (omega arith)
-store-next i (x ∷ s) [] h k = absurd (omega arith)
-store-next i (x ∷ s) (high ∷ []) h k = absurd (omega arith)
-store-next zero (x ∷ s) (high ∷ low ∷ b) h k = refl
-store-next (suc i) (x ∷ s) (high ∷ low ∷ b) h k =
-    rw (low-more i, two-more (suc i), two-more i)
-    (ap (λ (l : List ℕ). high_of x ∷ low_of x ∷ l) (rw (two-more i) at (store-next i s b (omega arith) (omega arith))))
+unfolding stored pcm_bytes
+store_next i [] b h k = absurd (omega arith)
+store_next i (x ∷ s) [] h k = absurd (omega arith)
+store_next i (x ∷ s) (high ∷ []) h k = absurd (omega arith)
+store_next zero (x ∷ s) (high ∷ low ∷ b) h k = refl
+store_next (suc i) (x ∷ s) (high ∷ low ∷ b) h k =
+    rw (low_more i, two_more (suc i), two_more i)
+    (ap (λ (l : List ℕ). high_of x ∷ low_of x ∷ l) (rw (two_more i) at (store_next i s b (omega arith) (omega arith))))
 
 -- the same of what lies in memory and what the code's calls gave
 module _ (i : ℕ) (b : List ℕ) (s : List ℤ) (h : 2 * i + 1 < length b) (k : i < length s) where
-  pub load-turn : {now : List ℤ} {v : ℤ} → now ≡ (loaded i b s).left → v ≡ sampleOf (get_or b (2 * i) 0) (get_or b (2 * i + 1) 0)
+  pub load_turn : {now : List ℤ} {v : ℤ} → now ≡ (loaded i b s).left → v ≡ sample_of (get_or b (2 * i) 0) (get_or b (2 * i + 1) 0)
       → set now i v ≡ (loaded (i + 1) b s).left
-  load-turn e f = rw (e, f, add-one i) (load-next i b s h k)
+  load_turn e f = rw (e, f, add-one i) (load_next i b s h k)
 
-  pub store-turn : {now : List ℕ} {v w : ℕ} → now ≡ (stored i s b).left → v ≡ high_of (get_or s i (pos 0)) → w ≡ low_of (get_or s i (pos 0))
+  pub store_turn : {now : List ℕ} {v w : ℕ} → now ≡ (stored i s b).left → v ≡ high_of (get_or s i (pos 0)) → w ≡ low_of (get_or s i (pos 0))
       → set (set now (2 * i) v) (2 * i + 1) w ≡ (stored (i + 1) s b).left
-  store-turn e f g = rw (e, f, g, add-one i) (store-next i s b k h)
+  store_turn e f g = rw (e, f, g, add-one i) (store_next i s b k h)

@@ -10,8 +10,8 @@ byte = equation (λ κs a l m. refl) (λ M. bigendian.byte.Met.met)
 pub two_at : LeavesOne bigendian.two_at.ended (λ M. bigendian.two_at.clauses) bigendian.two_at.Symbol.routine
 two_at = equation (λ κs a l m. refl) (λ M. bigendian.two_at.Met.met)
 
-pub four-at : LeavesOne bigendian.four_at.ended (λ M. bigendian.four_at.clauses) bigendian.four_at.Symbol.routine
-four-at = equation (λ κs a l m. refl) (λ M. bigendian.four_at.Met.met)
+pub four_at : LeavesOne bigendian.four_at.ended (λ M. bigendian.four_at.clauses) bigendian.four_at.Symbol.routine
+four_at = equation (λ κs a l m. refl) (λ M. bigendian.four_at.Met.met)
 
 pub sample : LeavesOne bigendian.sample.ended (λ M. bigendian.sample.clauses) bigendian.sample.Symbol.routine
 sample = equation (λ κs a l m. refl) (λ M. bigendian.sample.Met.met)

@@ -1,6 +1,6 @@
 // Numbers from 0 up in two and in four bytes, the high byte first. A place beyond the end reads as 0, so that reading asks nothing.
 ghost use Rattle.std.specs.Prelude.{◌≡◌, ◌%◌, get_or};
-ghost use Rattle.big_endian.specs.Numbers.{twoAt, fourAt};
+ghost use Rattle.big_endian.specs.Numbers.{two_at, four_at};
 
 // The last byte of a number.
 pub fn byte(x: u32) -> u8
@@ -21,7 +21,7 @@ fn byte_at(b: &[u8], i: usize) -> u8
 
 // The number in two bytes.
 pub fn two_at(b: &[u8], i: usize) -> u16
-    ensures { result ≡ twoAt b.now i }
+    ensures { result ≡ two_at b.now i }
 {
     if b.len() <= i {
         return 0;
@@ -31,7 +31,7 @@ pub fn two_at(b: &[u8], i: usize) -> u16
 
 // The number in four bytes.
 pub fn four_at(b: &[u8], i: usize) -> u32
-    ensures { result ≡ fourAt b.now i }
+    ensures { result ≡ four_at b.now i }
 {
     if b.len() <= i {
         return 0;

@@ -1,13 +1,13 @@
 // Samples as bytes and back: two bytes a sample, high byte first, two's complement.
 ghost use Rattle.std.specs.Prelude.{◌≡◌};
 ghost use Rattle.laws.specs.Outcome.{Does};
-ghost use Rattle.big_endian.specs.Bytes.{sampleOf, word_of, high_of, low_of, loadCall, storeCall};
+ghost use Rattle.big_endian.specs.Bytes.{sample_of, word_of, high_of, low_of, load_call, store_call};
 
 use bounds::lesser;
 
 // The sample of a high and a low byte.
 pub fn sample(high: u8, low: u8) -> i16
-    ensures { result ≡ sampleOf high low }
+    ensures { result ≡ sample_of high low }
 {
     let word = 256 * (high as u32) + low as u32;
     if word < 32768 {
@@ -43,7 +43,7 @@ pub fn low(x: i16) -> u8
 
 // Reads as many samples as both have room for, and answers how many.
 pub fn load(bytes: &[u8], samples: &mut [i16]) -> usize
-    ensures { Does (loadCall bytes.now samples.old) result samples.new }
+    ensures { Does (load_call bytes.now samples.old) result samples.new }
 {
     let n = lesser(bytes.len() / 2, samples.len());
     for i in 0..n {
@@ -54,7 +54,7 @@ pub fn load(bytes: &[u8], samples: &mut [i16]) -> usize
 
 // Writes as many samples as both have room for, and answers how many.
 pub fn store(samples: &[i16], bytes: &mut [u8]) -> usize
-    ensures { Does (storeCall samples.now bytes.old) result bytes.new }
+    ensures { Does (store_call samples.now bytes.old) result bytes.new }
 {
     let n = lesser(samples.len(), bytes.len() / 2);
     for i in 0..n {

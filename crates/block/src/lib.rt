@@ -1,9 +1,9 @@
 // The logger's 512-byte blocks (SCOPE, logger blocks): their check, writing one, reading one.
 ghost use Rattle.std.specs.Prelude.{◌≡◌, ◌≤◌, length, replicate};
 ghost use Rattle.laws.specs.Outcome.{Does};
-ghost use Rattle.block.specs.Check.{byteStep, check};
+ghost use Rattle.block.specs.Check.{byte_step, check};
 ghost use Rattle.block.specs.Layout.{head, body, block_of};
-ghost use Rattle.block.specs.Calls.{between, allowed, allZero, wellFormed, refused, numbered, writeCall, readCall};
+ghost use Rattle.block.specs.Calls.{between, allowed, all_zero, well_formed, refused, numbered, write_call, read_call};
 
 use big_endian::{byte, four_at, two_at};
 use g722::Moved;
@@ -21,7 +21,7 @@ pub struct BlockRead {
 
 // The register after a byte: the eight steps at once.
 fn byte_step(reg: u16, byte: u8) -> u16
-    ensures { result ≡ byteStep reg byte }
+    ensures { result ≡ byte_step reg byte }
 {
     let met = reg ^ (byte as u16 * 256);
     let high = met / 256;
@@ -141,7 +141,7 @@ fn numbered(number: u8) -> Moved
 
 // Writes a block into the 512 bytes lent: 6, then 8.
 pub fn write(take: u32, block: u32, mode: u8, octets: &[u8], out: &mut [u8]) -> Moved
-    ensures { Does (writeCall take block mode octets.now out.old) result out.new }
+    ensures { Does (write_call take block mode octets.now out.old) result out.new }
 {
     let whole = out.len() == 512;
     let fits = allowed(mode, octets.len());
@@ -157,7 +157,7 @@ pub fn write(take: u32, block: u32, mode: u8, octets: &[u8], out: &mut [u8]) -> 
 
 // Whether every byte is zero.
 fn all_zero(bytes: &[u8]) -> bool
-    ensures { result ≡ allZero bytes.now }
+    ensures { result ≡ all_zero bytes.now }
 {
     let mut i: usize = 0;
     while i < bytes.len() {
@@ -172,7 +172,7 @@ fn all_zero(bytes: &[u8]) -> bool
 // Whether the mode and the count are allowed and the bytes that must be zero are.
 fn well_formed(b: &[u8]) -> bool
     requires { length b.now ≡ 512 }
-    ensures { result ≡ wellFormed b.now }
+    ensures { result ≡ well_formed b.now }
 {
     let count = two_at(b, 10) as usize;
     if !allowed(b[8], count) {
@@ -201,7 +201,7 @@ fn refused(number: u8) -> BlockRead
 
 // Reads a block: 6, then 7, then 8.
 pub fn read(b: &[u8]) -> BlockRead
-    ensures { result ≡ readCall b.now }
+    ensures { result ≡ read_call b.now }
 {
     if b.len() != 512 {
         return refused(6);

@@ -1,7 +1,7 @@
 // The bounds of records and of samples: SCOPE 2 and 14 to 22.
 ghost use Rattle.std.specs.Prelude.{◌≡◌, ◌&&◌, min};
-ghost use Rattle.g722.specs.Coding.{misfit, firstBad};
-ghost use Rattle.g722.specs.Records.{in_range, allInRange, goodPoles, goodLow, goodHigh, resetBand};
+ghost use Rattle.g722.specs.Coding.{misfit, first_bad};
+ghost use Rattle.g722.specs.Records.{in_range, all_in_range, good_poles, good_low, good_high, reset_band};
 
 use arith::{equal, sub, within};
 use g722::{Band, Factors, Poles, Zeros};
@@ -46,7 +46,7 @@ pub fn in_range(x: i16) -> bool
 
 // Whether all do, by one pass without a branch.
 pub fn all_in_range(xs: &[i16]) -> bool
-    ensures { result ≡ allInRange xs.now }
+    ensures { result ≡ all_in_range xs.now }
 {
     let mut ok = true;
     for i in 0..xs.len() {
@@ -57,7 +57,7 @@ pub fn all_in_range(xs: &[i16]) -> bool
 
 // The index of the first out of range, or the length where there is none.
 pub fn first_bad(xs: &[i16]) -> usize
-    ensures { result ≡ firstBad xs.now }
+    ensures { result ≡ first_bad xs.now }
 {
     for i in 0..xs.len() {
         if !in_range(xs[i]) {
@@ -69,7 +69,7 @@ pub fn first_bad(xs: &[i16]) -> usize
 
 // Whether both pole coefficients lie within their bounds.
 pub fn good_poles(s: Poles) -> bool
-    ensures { result ≡ goodPoles s }
+    ensures { result ≡ good_poles s }
 {
     let a1 = s.a1;
     let a2 = s.a2;
@@ -79,7 +79,7 @@ pub fn good_poles(s: Poles) -> bool
 
 // Whether a low band keeps its bounds.
 pub fn good_low(s: Band) -> bool
-    ensures { result ≡ goodLow s }
+    ensures { result ≡ good_low s }
 {
     let poles = s.poles;
     let f = s.factors;
@@ -91,7 +91,7 @@ pub fn good_low(s: Band) -> bool
 
 // Whether a high band does.
 pub fn good_high(s: Band) -> bool
-    ensures { result ≡ goodHigh s }
+    ensures { result ≡ good_high s }
 {
     let poles = s.poles;
     let f = s.factors;
@@ -103,7 +103,7 @@ pub fn good_high(s: Band) -> bool
 
 // A band at reset, with its least scale factor.
 pub fn reset_band(scale: i16) -> Band
-    ensures { result ≡ resetBand scale }
+    ensures { result ≡ reset_band scale }
 {
     Band {
         zeros: Zeros {

@@ -2,25 +2,25 @@
 -- Assumes nothing.
 use Rattle.std.specs.Prelude.{List, [], ◌∷◌, ℕ, ℤ}
 use Rattle.laws.specs.Outcome.{Outcome}
-use Rattle.g722.specs.Band.{lowAfter, highAfter}
+use Rattle.g722.specs.Band.{low_after, high_after}
 use Rattle.g722.specs.Octet.{octet}
-use Rattle.g722.specs.Coding.{lowWordOf, highWordOf}
+use Rattle.g722.specs.Coding.{low_word_of, high_word_of}
 use Rattle.g722.specs.declared.Band.{Band}
 use Rattle.coder.specs.declared.BothBands.{BothBands}
 
-unfoldable pub octetsBy : Band → Band → List ℤ → List ℤ → List ℕ
-octetsBy low high [] xhs = []
-octetsBy low high (xl ∷ xls) [] = []
-octetsBy low high (xl ∷ xls) (xh ∷ xhs) =
-    let il = lowWordOf low xl in
-    let ih = highWordOf high xh in
-    octet ih il ∷ octetsBy (lowAfter low il) (highAfter high ih) xls xhs
+unfoldable pub octets_by : Band → Band → List ℤ → List ℤ → List ℕ
+octets_by low high [] xhs = []
+octets_by low high (xl ∷ xls) [] = []
+octets_by low high (xl ∷ xls) (xh ∷ xhs) =
+    let il = low_word_of low xl in
+    let ih = high_word_of high xh in
+    octet ih il ∷ octets_by (low_after low il) (high_after high ih) xls xhs
 
-unfoldable pub bandsAfter : Band → Band → List ℤ → List ℤ → BothBands
-bandsAfter low high [] xhs = record { low = low; high = high }
-bandsAfter low high (xl ∷ xls) [] = record { low = low; high = high }
-bandsAfter low high (xl ∷ xls) (xh ∷ xhs) =
-    bandsAfter (lowAfter low (lowWordOf low xl)) (highAfter high (highWordOf high xh)) xls xhs
+unfoldable pub bands_after : Band → Band → List ℤ → List ℤ → BothBands
+bands_after low high [] xhs = record { low = low; high = high }
+bands_after low high (xl ∷ xls) [] = record { low = low; high = high }
+bands_after low high (xl ∷ xls) (xh ∷ xhs) =
+    bands_after (low_after low (low_word_of low xl)) (high_after high (high_word_of high xh)) xls xhs
 
-abbrev pub bandsRun : Band → Band → List ℤ → List ℤ → Outcome BothBands (List ℕ)
-bandsRun low high xls xhs = record { answer = bandsAfter low high xls xhs; left = octetsBy low high xls xhs }
+abbrev pub bands_run : Band → Band → List ℤ → List ℤ → Outcome BothBands (List ℕ)
+bands_run low high xls xhs = record { answer = bands_after low high xls xhs; left = octets_by low high xls xhs }

@@ -2,9 +2,9 @@
 ghost use Rattle.std.specs.Prelude.{◌≡◌, true, ◌≤◌, length};
 ghost use mathlib.Core.List.{zip_with};
 ghost use Rattle.laws.specs.Outcome.{Does};
-ghost use Rattle.g722.specs.Records.{goodPoles};
+ghost use Rattle.g722.specs.Records.{good_poles};
 ghost use Rattle.coder.specs.ByBand.{together};
-ghost use Rattle.coder.specs.Step.{bandsRun};
+ghost use Rattle.coder.specs.Step.{bands_run};
 
 use crate::BothBands;
 use g722::Band;
@@ -33,9 +33,9 @@ pub(crate) fn bands_all(
     requires words_len { length words.old ≡ length octets.old }
     requires xl_len { length xl.now ≡ length octets.old }
     requires xh_len { length xh.now ≡ length octets.old }
-    requires poles_value { goodPoles low.poles ≡ true }
-    requires poles_value_2 { goodPoles high.poles ≡ true }
-    ensures { Does (bandsRun low high xl.now xh.now) result octets.new }
+    requires poles_value { good_poles low.poles ≡ true }
+    requires poles_value_2 { good_poles high.poles ≡ true }
+    ensures { Does (bands_run low high xl.now xh.now) result octets.new }
 {
     let l = code_band(false, low, xl, octets);
     let h = code_band(true, high, xh, words);

@@ -4,8 +4,8 @@ mod bands;
 
 ghost use Rattle.std.specs.Prelude.{◌≡◌, true, ◌*◌, ◌≤◌, length};
 ghost use Rattle.laws.specs.Outcome.{Does};
-ghost use Rattle.g722.specs.Records.{allInRange, resetCoder, goodCoder};
-ghost use Rattle.g722.specs.Coding.{coded, codeCall};
+ghost use Rattle.g722.specs.Records.{all_in_range, reset_coder, good_coder};
+ghost use Rattle.g722.specs.Coding.{coded, code_call};
 
 use bands::bands_all;
 use bounds::{all_in_range, both, first_bad, good_high, good_low, lesser, misfit, reset_band};
@@ -21,7 +21,7 @@ pub struct BothBands {
 
 // The record from which both ends start.
 pub fn reset() -> Coder
-    ensures { result ≡ resetCoder }
+    ensures { result ≡ reset_coder }
 {
     Coder {
         low: reset_band(32),
@@ -32,7 +32,7 @@ pub fn reset() -> Coder
 
 // Whether a record keeps its bounds.
 pub fn good_coder(c: Coder) -> bool
-    ensures { result ≡ goodCoder c }
+    ensures { result ≡ good_coder c }
 {
     let low = c.low;
     let high = c.high;
@@ -78,8 +78,8 @@ fn in_turn(
     requires low_len { length low.old ≡ length octets.old }
     requires high_len { length high.old ≡ length octets.old }
     requires words_len { length words.old ≡ length octets.old }
-    requires c_value { goodCoder c ≡ true }
-    requires samples_value { allInRange samples.now ≡ true }
+    requires c_value { good_coder c ≡ true }
+    requires samples_value { all_in_range samples.now ≡ true }
     ensures { Does (coded c samples.now) result octets.new }
 {
     let past = c.past;
@@ -102,8 +102,8 @@ fn in_turn(
 fn block(c: Coder, samples: &[i16], octets: &mut [u8]) -> Coded
     requires octets_len_bound { length octets.old ≤ 160 }
     requires samples_len { length samples.now ≡ 2 * length octets.old }
-    requires c_value { goodCoder c ≡ true }
-    requires samples_value { allInRange samples.now ≡ true }
+    requires c_value { good_coder c ≡ true }
+    requires samples_value { all_in_range samples.now ≡ true }
     ensures { Does (coded c samples.now) result octets.new }
 {
     let n = octets.len();
@@ -124,8 +124,8 @@ fn block(c: Coder, samples: &[i16], octets: &mut [u8]) -> Coded
 fn run(c: Coder, samples: &[i16], octets: &mut [u8]) -> Coded
     requires octets_len_bound { length octets.old ≤ 8000 }
     requires samples_len { length samples.now ≡ 2 * length octets.old }
-    requires c_value { goodCoder c ≡ true }
-    requires samples_value { allInRange samples.now ≡ true }
+    requires c_value { good_coder c ≡ true }
+    requires samples_value { all_in_range samples.now ≡ true }
     ensures { Does (coded c samples.now) result octets.new }
 {
     let mut s = c;
@@ -143,7 +143,7 @@ fn run(c: Coder, samples: &[i16], octets: &mut [u8]) -> Coded
 
 // A coding call: 2n samples to n octets, n at most 8000. All samples are looked at before the first is coded.
 pub fn code(c: Coder, samples: &[i16], octets: &mut [u8]) -> Coded
-    ensures { Does (codeCall c samples.now octets.old) result octets.new }
+    ensures { Does (code_call c samples.now octets.old) result octets.new }
 {
     let unfit = misfit(samples.len(), octets.len());
     let good = good_coder(c);

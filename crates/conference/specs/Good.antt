@@ -8,49 +8,49 @@ use Prim.Native.Nat.{ℕ, zero, suc, ◌≤◌, ◌<◌}
 use Rattle.std.proofs.lemmas.Bool.{eqb-false}
 use Rattle.std.proofs.Math.IntN.{pos}
 use Rattle.std.proofs.Math.ListN.{length-replicate, get_or-replicate}
-use Rattle.laws.specs.Both.{both, left-true, right-true}
-use Rattle.laws.specs.Order.{by-test}
-use Rattle.g722.specs.Records.{goodLow, goodHigh, allInRange, goodCoder, goodDecoder, resetCoder, resetDecoder}
+use Rattle.laws.specs.Both.{both, left_true, right_true}
+use Rattle.laws.specs.Order.{by_test}
+use Rattle.g722.specs.Records.{good_low, good_high, all_in_range, good_coder, good_decoder, reset_coder, reset_decoder}
 use Rattle.g722.specs.declared.Coder.{Coder}
 use Rattle.g722.specs.declared.Decoder.{Decoder}
-use Rattle.facts.specs.Good.{low-good, high-good, coder-reset-good, decoder-reset-good}
-use Rattle.facts.specs.Signals.{heard-good}
-use Rattle.conference.specs.Ports.{decoderFrom, coderTo}
-use Rattle.conference.specs.Tick.{unseated, allGood, goodPort, goodPorts, signalsTo, deskAfter, tickCall, resetDesk}
+use Rattle.facts.specs.Good.{low_good, high_good, coder_reset_good, decoder_reset_good}
+use Rattle.facts.specs.Signals.{heard_good}
+use Rattle.conference.specs.Ports.{decoder_from, coder_to}
+use Rattle.conference.specs.Tick.{unseated, all_good, good_port, good_ports, signals_to, desk_after, tick_call, reset_desk}
 use Rattle.conference.specs.Cases.{seated, refused, Accepted, accepted}
-use Rattle.conference.specs.Rows.{pairs-length, pairs-at, each_at}
-use Rattle.conference.specs.Own.{Eight, signals-long, still-eight, ports-stay}
+use Rattle.conference.specs.Rows.{pairs_length, pairs_at, each_at}
+use Rattle.conference.specs.Own.{Eight, signals_long, still_eight, ports_stay}
 use Rattle.conference.specs.declared.Desk.{Desk}
 
 -- ---- one port
 
-coder-stays-good : (c : Coder) (s : ℤ × ℤ) → goodCoder c ≡ true → goodCoder (coderTo c s) ≡ true
-unfolding goodCoder coderTo
-coder-stays-good c s g =
-    both (both (low-good c.low _) (high-good c.high _)) (right-true (goodLow c.low && goodHigh c.high) (allInRange c.past) g)
+coder_stays_good : (c : Coder) (s : ℤ × ℤ) → good_coder c ≡ true → good_coder (coder_to c s) ≡ true
+unfolding good_coder coder_to
+coder_stays_good c s g =
+    both (both (low_good c.low _) (high_good c.high _)) (right_true (good_low c.low && good_high c.high) (all_in_range c.past) g)
 
-decoder-stays-good : (d : Decoder) (o : ℕ) → goodDecoder d ≡ true → goodDecoder (decoderFrom d o) ≡ true
-unfolding decoderFrom
-decoder-stays-good d o g = heard-good d (o ∷ []) g
+decoder_stays_good : (d : Decoder) (o : ℕ) → good_decoder d ≡ true → good_decoder (decoder_from d o) ≡ true
+unfolding decoder_from
+decoder_stays_good d o g = heard_good d (o ∷ []) g
 
-pub port-stays-good : (c : Coder) (d : Decoder) (s : ℤ × ℤ) (o : ℕ)
-    → goodPort (c, d) ≡ true → goodPort (coderTo c s, decoderFrom d o) ≡ true
-unfolding goodPort
-port-stays-good c d s o g =
-    both (coder-stays-good c s (left-true (goodCoder c) (goodDecoder d) g))
-    (decoder-stays-good d o (right-true (goodCoder c) (goodDecoder d) g))
+pub port_stays_good : (c : Coder) (d : Decoder) (s : ℤ × ℤ) (o : ℕ)
+    → good_port (c, d) ≡ true → good_port (coder_to c s, decoder_from d o) ≡ true
+unfolding good_port
+port_stays_good c d s o g =
+    both (coder_stays_good c s (left_true (good_coder c) (good_decoder d) g))
+    (decoder_stays_good d o (right_true (good_coder c) (good_decoder d) g))
 
 -- ---- all: each at its place
 
 module _ {A : Type 0} (good : A → Bool) (a : A) where
-  all-at : (row : List A) (k : ℕ) → allGood good row ≡ true → k < length row → good (get_or row k a) ≡ true
-  unfolding allGood
-  all-at [] k g h = absurd (omega arith)
-  all-at (x ∷ row) zero g h = left-true (good x) (allGood good row) g
-  all-at (x ∷ row) (suc k) g h = all-at row k (right-true (good x) (allGood good row) g) (omega arith)
+  all_at : (row : List A) (k : ℕ) → all_good good row ≡ true → k < length row → good (get_or row k a) ≡ true
+  unfolding all_good
+  all_at [] k g h = absurd (omega arith)
+  all_at (x ∷ row) zero g h = left_true (good x) (all_good good row) g
+  all_at (x ∷ row) (suc k) g h = all_at row k (right_true (good x) (all_good good row) g) (omega arith)
 
-  all_from : (row : List A) → ((k : ℕ) → k < length row → good (get_or row k a) ≡ true) → allGood good row ≡ true
-  unfolding allGood
+  all_from : (row : List A) → ((k : ℕ) → k < length row → good (get_or row k a) ≡ true) → all_good good row ≡ true
+  unfolding all_good
   all_from [] f = refl
   all_from (x ∷ row) f = both (f 0 (omega arith)) (all_from row (λ k h. f (suc k) (omega arith)))
 
@@ -60,84 +60,84 @@ abbrev ports : Desk → List (Coder × Decoder)
 ports desk = take desk.ports (zip desk.coders desk.decoders)
 
 abbrev none : Coder × Decoder
-none = (resetCoder, resetDecoder)
+none = (reset_coder, reset_decoder)
 
 -- the records of port k
 module _ (desk : Desk) (w : Eight desk) (m : desk.ports ≤ 8) where
-  ports-long : length (ports desk) ≡ desk.ports
-  ports-long = length-take-le desk.ports _ (omega (arith, pairs-length desk.coders desk.decoders, w.coders, w.decoders))
+  ports_long : length (ports desk) ≡ desk.ports
+  ports_long = length-take-le desk.ports _ (omega (arith, pairs_length desk.coders desk.decoders, w.coders, w.decoders))
 
-  port-at : (k : ℕ) → k < desk.ports → get_or (ports desk) k none ≡ (get_or desk.coders k resetCoder, get_or desk.decoders k resetDecoder)
-  port-at k h =
+  port_at : (k : ℕ) → k < desk.ports → get_or (ports desk) k none ≡ (get_or desk.coders k reset_coder, get_or desk.decoders k reset_decoder)
+  port_at k h =
       get_or-take desk.ports (zip desk.coders desk.decoders) k none h
-      ∙ pairs-at desk.coders desk.decoders k resetCoder resetDecoder none (omega (arith, w.coders)) (omega (arith, w.decoders))
+      ∙ pairs_at desk.coders desk.decoders k reset_coder reset_decoder none (omega (arith, w.coders)) (omega (arith, w.decoders))
 
 module _ (desk : Desk) (modes octets room : List ℕ) (w : Eight desk) (a : Accepted desk modes octets room) where
   abbrev next : Desk
-  next = deskAfter desk modes octets
+  next = desk_after desk modes octets
 
   -- port k after the tick
-  pub coder-at : (k : ℕ) → k < desk.ports
-      → get_or next.coders k resetCoder
-      ≡ coderTo (get_or desk.coders k resetCoder) (get_or (signalsTo desk modes octets) k (pos 0, pos 0))
-  unfolding deskAfter
-  coder-at k h =
-      each_at coderTo desk.coders (signalsTo desk modes octets) k resetCoder (pos 0, pos 0) (omega (arith, w.coders, a.most))
-      (omega (arith, signals-long desk modes octets room w a))
+  pub coder_at : (k : ℕ) → k < desk.ports
+      → get_or next.coders k reset_coder
+      ≡ coder_to (get_or desk.coders k reset_coder) (get_or (signals_to desk modes octets) k (pos 0, pos 0))
+  unfolding desk_after
+  coder_at k h =
+      each_at coder_to desk.coders (signals_to desk modes octets) k reset_coder (pos 0, pos 0) (omega (arith, w.coders, a.most))
+      (omega (arith, signals_long desk modes octets room w a))
 
-  pub decoder-at : (k : ℕ) → k < desk.ports
-      → get_or next.decoders k resetDecoder ≡ decoderFrom (get_or desk.decoders k resetDecoder) (get_or octets k 0)
-  unfolding deskAfter
-  decoder-at k h =
-      each_at decoderFrom desk.decoders octets k resetDecoder 0 (omega (arith, w.decoders, a.most)) (omega (arith, a.octets))
+  pub decoder_at : (k : ℕ) → k < desk.ports
+      → get_or next.decoders k reset_decoder ≡ decoder_from (get_or desk.decoders k reset_decoder) (get_or octets k 0)
+  unfolding desk_after
+  decoder_at k h =
+      each_at decoder_from desk.decoders octets k reset_decoder 0 (omega (arith, w.decoders, a.most)) (omega (arith, a.octets))
 
-  good-at : (k : ℕ) → k < desk.ports → goodPort (get_or (ports next) k none) ≡ true
-  unfolding goodPorts
-  good-at k h =
-      let before = all-at goodPort none (ports desk) k a.good (rw (ports-long desk w a.most) h) in
-      let stood = ap goodPort (sym (port-at desk w a.most k h)) ∙ before in
-      let after = port-at next (still-eight desk modes octets room w a) (rw ports-stay a.most) k (rw ports-stay h) in
-      ap goodPort (after ∙ λ i. (coder-at k h i, decoder-at k h i)) ∙ port-stays-good _ _ _ _ stood
+  good_at : (k : ℕ) → k < desk.ports → good_port (get_or (ports next) k none) ≡ true
+  unfolding good_ports
+  good_at k h =
+      let before = all_at good_port none (ports desk) k a.good (rw (ports_long desk w a.most) h) in
+      let stood = ap good_port (sym (port_at desk w a.most k h)) ∙ before in
+      let after = port_at next (still_eight desk modes octets room w a) (rw ports_stay a.most) k (rw ports_stay h) in
+      ap good_port (after ∙ λ i. (coder_at k h i, decoder_at k h i)) ∙ port_stays_good _ _ _ _ stood
 
-  good-after : goodPorts next ≡ true
-  unfolding goodPorts
-  good-after =
-      let long = ports-long next (still-eight desk modes octets room w a) (rw ports-stay a.most) in
-      all_from goodPort none (ports next) (λ k h. good-at k (omega (arith, long, ports-stay desk modes octets)))
+  good_after : good_ports next ≡ true
+  unfolding good_ports
+  good_after =
+      let long = ports_long next (still_eight desk modes octets room w a) (rw ports_stay a.most) in
+      all_from good_port none (ports next) (λ k h. good_at k (omega (arith, long, ports_stay desk modes octets)))
 
 -- THE THEOREMS: no caller is refused a desk that a tick or a reset gave it
 abbrev pub GoodDesk : Desk → Type 0
-GoodDesk desk = Eight desk × (unseated desk.ports ≡ false) × (goodPorts desk ≡ true)
+GoodDesk desk = Eight desk × (unseated desk.ports ≡ false) × (good_ports desk ≡ true)
 
-pub desk-stays-good : (desk : Desk) (modes octets room : List ℕ) → GoodDesk desk → GoodDesk (tickCall desk modes octets room).answer.next
-desk-stays-good desk modes octets room (w, s, g) =
-    by-test (eqb (tickCall desk modes octets room).answer.number 0)
+pub desk_stays_good : (desk : Desk) (modes octets room : List ℕ) → GoodDesk desk → GoodDesk (tick_call desk modes octets room).answer.next
+desk_stays_good desk modes octets room (w, s, g) =
+    by_test (eqb (tick_call desk modes octets room).answer.number 0)
     (λ e.
     let a = accepted desk modes octets room (eqb-true _ _ e) in
-    rw a.done (still-eight desk modes octets room w a, rw ports-stay s, good-after desk modes octets room w a))
+    rw a.done (still_eight desk modes octets room w a, rw ports_stay s, good_after desk modes octets room w a))
     (λ e. rw (refused desk modes octets room (eqb-false _ _ e)).0 (w, s, g))
 
 module _ (n : ℕ) (s : unseated n ≡ false) where
-  reset-eight : Eight (resetDesk n)
-  unfolding resetDesk
-  reset-eight = record { coders = length-replicate 8 resetCoder; decoders = length-replicate 8 resetDecoder }
+  reset_eight : Eight (reset_desk n)
+  unfolding reset_desk
+  reset_eight = record { coders = length-replicate 8 reset_coder; decoders = length-replicate 8 reset_decoder }
 
-  few : (resetDesk n).ports ≤ 8
-  unfolding resetDesk
+  few : (reset_desk n).ports ≤ 8
+  unfolding reset_desk
   few = (seated n s).1
 
-  reset-port : (k : ℕ) → k < (resetDesk n).ports → goodPort (get_or (ports (resetDesk n)) k none) ≡ true
-  unfolding resetDesk goodPort
-  reset-port k h =
+  reset_port : (k : ℕ) → k < (reset_desk n).ports → good_port (get_or (ports (reset_desk n)) k none) ≡ true
+  unfolding reset_desk good_port
+  reset_port k h =
       let inside : k < 8 = omega (arith, few) in
       rw (
-        port-at (resetDesk n) reset-eight few k h,
-        get_or-replicate 8 k resetCoder resetCoder inside,
-        get_or-replicate 8 k resetDecoder resetDecoder inside,
-      ) (both coder-reset-good decoder-reset-good)
+        port_at (reset_desk n) reset_eight few k h,
+        get_or-replicate 8 k reset_coder reset_coder inside,
+        get_or-replicate 8 k reset_decoder reset_decoder inside,
+      ) (both coder_reset_good decoder_reset_good)
 
-  pub desk-reset-good : GoodDesk (resetDesk n)
-  unfolding resetDesk goodPorts
-  desk-reset-good =
-      let long = ports-long (resetDesk n) reset-eight few in
-      (reset-eight, s, all_from goodPort none (ports (resetDesk n)) (λ k h. reset-port k (rw (← long) h)))
+  pub desk_reset_good : GoodDesk (reset_desk n)
+  unfolding reset_desk good_ports
+  desk_reset_good =
+      let long = ports_long (reset_desk n) reset_eight few in
+      (reset_eight, s, all_from good_port none (ports (reset_desk n)) (λ k h. reset_port k (rw (← long) h)))

@@ -2,50 +2,50 @@
 -- Assumes nothing.
 use mathlib.Core.List.{List, [], ◌∷◌, zip, zip_with}
 use Rattle.std.specs.Prelude.{ℕ, ℤ}
-use Rattle.g722.specs.Quantise.{inForce}
-use Rattle.g722.specs.Band.{lowAfter, highAfter}
+use Rattle.g722.specs.Quantise.{in_force}
+use Rattle.g722.specs.Band.{low_after, high_after}
 use Rattle.g722.specs.Octet.{octet}
-use Rattle.g722.specs.Coding.{lowWordOf, highWordOf}
-use Rattle.g722.specs.Decoding.{rlOf, rhOf}
-use Rattle.g722.specs.Steps.{heardAfter}
+use Rattle.g722.specs.Coding.{low_word_of, high_word_of}
+use Rattle.g722.specs.Decoding.{rl_of, rh_of}
+use Rattle.g722.specs.Steps.{heard_after}
 use Rattle.g722.specs.declared.Coder.{Coder}
 use Rattle.g722.specs.declared.Decoder.{Decoder}
 
 -- ---- one port
 
 -- RL and RH of a port's octet, by the mode that it was told, and its decoder after the octet: the past pairs stay
-unfoldable pub rlFrom : Decoder → ℕ × ℕ → ℤ
-rlFrom d (told, o) = rlOf (inForce told) d.low o
+unfoldable pub rl_from : Decoder → ℕ × ℕ → ℤ
+rl_from d (told, o) = rl_of (in_force told) d.low o
 
-unfoldable pub rhFrom : Decoder → ℕ → ℤ
-rhFrom d o = rhOf d.high o
+unfoldable pub rh_from : Decoder → ℕ → ℤ
+rh_from d o = rh_of d.high o
 
-unfoldable pub decoderFrom : Decoder → ℕ → Decoder
-decoderFrom d o = heardAfter d (o ∷ [])
+unfoldable pub decoder_from : Decoder → ℕ → Decoder
+decoder_from d o = heard_after d (o ∷ [])
 
 -- the octet that a port is sent for a low and a high signal, and its coder after that: the past samples stay
-unfoldable pub octetTo : Coder → ℤ × ℤ → ℕ
-octetTo c (xl, xh) = octet (highWordOf c.high xh) (lowWordOf c.low xl)
+unfoldable pub octet_to : Coder → ℤ × ℤ → ℕ
+octet_to c (xl, xh) = octet (high_word_of c.high xh) (low_word_of c.low xl)
 
-unfoldable pub coderTo : Coder → ℤ × ℤ → Coder
-coderTo c (xl, xh) =
+unfoldable pub coder_to : Coder → ℤ × ℤ → Coder
+coder_to c (xl, xh) =
     record {
-      low = lowAfter c.low (lowWordOf c.low xl);
-      high = highAfter c.high (highWordOf c.high xh);
+      low = low_after c.low (low_word_of c.low xl);
+      high = high_after c.high (high_word_of c.high xh);
       past = c.past;
     }
 
 -- ---- all ports
 
 -- RL and RH of every port
-unfoldable pub rlsFrom : List Decoder → List ℕ → List ℕ → List ℤ
-rlsFrom decoders modes octets = zip_with rlFrom decoders (zip modes octets)
+unfoldable pub rls_from : List Decoder → List ℕ → List ℕ → List ℤ
+rls_from decoders modes octets = zip_with rl_from decoders (zip modes octets)
 
-unfoldable pub rhsFrom : List Decoder → List ℕ → List ℤ
-rhsFrom decoders octets = zip_with rhFrom decoders octets
+unfoldable pub rhs_from : List Decoder → List ℕ → List ℤ
+rhs_from decoders octets = zip_with rh_from decoders octets
 
 -- a table of records after each port was given something: a port that is given nothing is not in use, and stays
-unfoldable pub eachPort : {A B : Type 0} → (A → B → A) → List A → List B → List A
-eachPort next [] given = []
-eachPort next (a ∷ rest) [] = a ∷ rest
-eachPort next (a ∷ rest) (b ∷ given) = next a b ∷ eachPort next rest given
+unfoldable pub each_port : {A B : Type 0} → (A → B → A) → List A → List B → List A
+each_port next [] given = []
+each_port next (a ∷ rest) [] = a ∷ rest
+each_port next (a ∷ rest) (b ∷ given) = next a b ∷ each_port next rest given

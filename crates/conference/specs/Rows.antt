@@ -6,7 +6,7 @@ use mathlib.Core.List.{List, [], ◌∷◌, zip, zip_with}
 use Prim.Native.Nat.{ℕ, zero, suc, min, ◌<◌}
 use native.Mathlib.Omega.{arith}
 use Rattle.conference.specs.Sums.{without}
-use Rattle.conference.specs.Ports.{eachPort}
+use Rattle.conference.specs.Ports.{each_port}
 
 -- an entry that is there, whatever stands past the end
 pub same_at : {A : Type 0} (xs : List A) (k : ℕ) (a b : A) → k < length xs → get_or xs k a ≡ get_or xs k b
@@ -23,90 +23,90 @@ module _ {A B C : Type 0} (f : A → B → C) where
   zip_length (x ∷ xs) [] = omega arith
   zip_length (x ∷ xs) (y ∷ ys) = let l = zip_length xs ys in omega arith
 
-  pub zip-at : (xs : List A) (ys : List B) (k : ℕ) (a : A) (b : B) (c : C) → k < length xs → k < length ys
+  pub zip_at : (xs : List A) (ys : List B) (k : ℕ) (a : A) (b : B) (c : C) → k < length xs → k < length ys
       → get_or (zip_with f xs ys) k c ≡ f (get_or xs k a) (get_or ys k b)
   unfolding zip_with
-  zip-at [] ys k a b c h l = absurd (omega arith)
-  zip-at (x ∷ xs) [] k a b c h l = absurd (omega arith)
-  zip-at (x ∷ xs) (y ∷ ys) zero a b c h l = refl
-  zip-at (x ∷ xs) (y ∷ ys) (suc k) a b c h l = zip-at xs ys k a b c (omega arith) (omega arith)
+  zip_at [] ys k a b c h l = absurd (omega arith)
+  zip_at (x ∷ xs) [] k a b c h l = absurd (omega arith)
+  zip_at (x ∷ xs) (y ∷ ys) zero a b c h l = refl
+  zip_at (x ∷ xs) (y ∷ ys) (suc k) a b c h l = zip_at xs ys k a b c (omega arith) (omega arith)
 
-  pub zip-none : (xs : List A) → zip_with f xs [] ≡ []
+  pub zip_none : (xs : List A) → zip_with f xs [] ≡ []
   unfolding zip_with
-  zip-none [] = refl
-  zip-none (x ∷ xs) = refl
+  zip_none [] = refl
+  zip_none (x ∷ xs) = refl
 
-  pub zip-without : (k : ℕ) (xs : List A) (ys : List B) → without k (zip_with f xs ys) ≡ zip_with f (without k xs) (without k ys)
+  pub zip_without : (k : ℕ) (xs : List A) (ys : List B) → without k (zip_with f xs ys) ≡ zip_with f (without k xs) (without k ys)
   unfolding zip_with without
-  zip-without zero [] ys = refl
-  zip-without (suc k) [] ys = refl
-  zip-without zero (x ∷ []) [] = refl
-  zip-without zero (x ∷ y ∷ xs) [] = refl
-  zip-without (suc k) (x ∷ xs) [] = refl
-  zip-without zero (x ∷ xs) (y ∷ ys) = refl
-  zip-without (suc k) (x ∷ xs) (y ∷ ys) = ap (λ (l : List C). f x y ∷ l) (zip-without k xs ys)
+  zip_without zero [] ys = refl
+  zip_without (suc k) [] ys = refl
+  zip_without zero (x ∷ []) [] = refl
+  zip_without zero (x ∷ y ∷ xs) [] = refl
+  zip_without (suc k) (x ∷ xs) [] = refl
+  zip_without zero (x ∷ xs) (y ∷ ys) = refl
+  zip_without (suc k) (x ∷ xs) (y ∷ ys) = ap (λ (l : List C). f x y ∷ l) (zip_without k xs ys)
 
 module _ {A B : Type 0} where
   abbrev pairing : A → B → A × B
   pairing a b = (a, b)
 
-  pub pairs-length : (xs : List A) (ys : List B) → length (zip xs ys) ≡ min (length xs) (length ys)
+  pub pairs_length : (xs : List A) (ys : List B) → length (zip xs ys) ≡ min (length xs) (length ys)
   unfolding zip
-  pairs-length = zip_length pairing
+  pairs_length = zip_length pairing
 
-  pub pairs-at : (xs : List A) (ys : List B) (k : ℕ) (a : A) (b : B) (c : A × B) → k < length xs → k < length ys
+  pub pairs_at : (xs : List A) (ys : List B) (k : ℕ) (a : A) (b : B) (c : A × B) → k < length xs → k < length ys
       → get_or (zip xs ys) k c ≡ (get_or xs k a, get_or ys k b)
   unfolding zip
-  pairs-at = zip-at pairing
+  pairs_at = zip_at pairing
 
-  pub pairs-without : (k : ℕ) (xs : List A) (ys : List B) → without k (zip xs ys) ≡ zip (without k xs) (without k ys)
+  pub pairs_without : (k : ℕ) (xs : List A) (ys : List B) → without k (zip xs ys) ≡ zip (without k xs) (without k ys)
   unfolding zip
-  pairs-without = zip-without pairing
+  pairs_without = zip_without pairing
 
 -- ---- a table of records
 
 module _ {A B : Type 0} (next : A → B → A) where
-  pub each-length : (xs : List A) (ys : List B) → length (eachPort next xs ys) ≡ length xs
-  unfolding eachPort
-  each-length [] ys = refl
-  each-length (x ∷ xs) [] = refl
-  each-length (x ∷ xs) (y ∷ ys) = ap suc (each-length xs ys)
+  pub each_length : (xs : List A) (ys : List B) → length (each_port next xs ys) ≡ length xs
+  unfolding each_port
+  each_length [] ys = refl
+  each_length (x ∷ xs) [] = refl
+  each_length (x ∷ xs) (y ∷ ys) = ap suc (each_length xs ys)
 
   -- a port that was given something, and one that was not
   pub each_at : (xs : List A) (ys : List B) (k : ℕ) (a : A) (b : B) → k < length xs → k < length ys
-      → get_or (eachPort next xs ys) k a ≡ next (get_or xs k a) (get_or ys k b)
-  unfolding eachPort
+      → get_or (each_port next xs ys) k a ≡ next (get_or xs k a) (get_or ys k b)
+  unfolding each_port
   each_at [] ys k a b h l = absurd (omega arith)
   each_at (x ∷ xs) [] k a b h l = absurd (omega arith)
   each_at (x ∷ xs) (y ∷ ys) zero a b h l = refl
   each_at (x ∷ xs) (y ∷ ys) (suc k) a b h l = each_at xs ys k a b (omega arith) (omega arith)
 
-  pub each-not-yet : (xs : List A) (ys : List B) (k : ℕ) (a : A) → get_or (eachPort next xs (take k ys)) k a ≡ get_or xs k a
-  unfolding eachPort
-  each-not-yet [] ys zero a = refl
-  each-not-yet [] ys (suc k) a = refl
-  each-not-yet (x ∷ xs) ys zero a = refl
-  each-not-yet (x ∷ xs) [] (suc k) a = refl
-  each-not-yet (x ∷ xs) (y ∷ ys) (suc k) a = each-not-yet xs ys k a
+  pub each_not_yet : (xs : List A) (ys : List B) (k : ℕ) (a : A) → get_or (each_port next xs (take k ys)) k a ≡ get_or xs k a
+  unfolding each_port
+  each_not_yet [] ys zero a = refl
+  each_not_yet [] ys (suc k) a = refl
+  each_not_yet (x ∷ xs) ys zero a = refl
+  each_not_yet (x ∷ xs) [] (suc k) a = refl
+  each_not_yet (x ∷ xs) (y ∷ ys) (suc k) a = each_not_yet xs ys k a
 
   -- one port more
-  pub each-one-more : (xs : List A) (ys : List B) (k : ℕ) (a : A) (b : B) → k < length xs → k < length ys
-      → set (eachPort next xs (take k ys)) k (next (get_or xs k a) (get_or ys k b)) ≡ eachPort next xs (take (suc k) ys)
-  unfolding eachPort
-  each-one-more [] ys k a b h l = absurd (omega arith)
-  each-one-more (x ∷ xs) [] k a b h l = absurd (omega arith)
-  each-one-more (x ∷ []) (y ∷ ys) zero a b h l = refl
-  each-one-more (x ∷ z ∷ xs) (y ∷ ys) zero a b h l = refl
-  each-one-more (x ∷ xs) (y ∷ ys) (suc k) a b h l =
-      ap (λ (t : List A). next x y ∷ t) (each-one-more xs ys k a b (omega arith) (omega arith))
+  pub each_one_more : (xs : List A) (ys : List B) (k : ℕ) (a : A) (b : B) → k < length xs → k < length ys
+      → set (each_port next xs (take k ys)) k (next (get_or xs k a) (get_or ys k b)) ≡ each_port next xs (take (suc k) ys)
+  unfolding each_port
+  each_one_more [] ys k a b h l = absurd (omega arith)
+  each_one_more (x ∷ xs) [] k a b h l = absurd (omega arith)
+  each_one_more (x ∷ []) (y ∷ ys) zero a b h l = refl
+  each_one_more (x ∷ z ∷ xs) (y ∷ ys) zero a b h l = refl
+  each_one_more (x ∷ xs) (y ∷ ys) (suc k) a b h l =
+      ap (λ (t : List A). next x y ∷ t) (each_one_more xs ys k a b (omega arith) (omega arith))
 
-  pub each-without : (k : ℕ) (xs : List A) (ys : List B)
-      → without k (eachPort next xs ys) ≡ eachPort next (without k xs) (without k ys)
-  unfolding eachPort without
-  each-without zero [] ys = refl
-  each-without (suc k) [] ys = refl
-  each-without zero (x ∷ []) [] = refl
-  each-without zero (x ∷ y ∷ xs) [] = refl
-  each-without (suc k) (x ∷ xs) [] = refl
-  each-without zero (x ∷ xs) (y ∷ ys) = refl
-  each-without (suc k) (x ∷ xs) (y ∷ ys) = ap (λ (t : List A). next x y ∷ t) (each-without k xs ys)
+  pub each_without : (k : ℕ) (xs : List A) (ys : List B)
+      → without k (each_port next xs ys) ≡ each_port next (without k xs) (without k ys)
+  unfolding each_port without
+  each_without zero [] ys = refl
+  each_without (suc k) [] ys = refl
+  each_without zero (x ∷ []) [] = refl
+  each_without zero (x ∷ y ∷ xs) [] = refl
+  each_without (suc k) (x ∷ xs) [] = refl
+  each_without zero (x ∷ xs) (y ∷ ys) = refl
+  each_without (suc k) (x ∷ xs) (y ∷ ys) = ap (λ (t : List A). next x y ∷ t) (each_without k xs ys)

@@ -15,17 +15,17 @@ without zero (x ∷ rest) = rest
 without (suc k) (x ∷ rest) = x ∷ without k rest
 
 -- 0, 1, .. : the first n ports
-unfoldable pub portsFrom : ℕ → ℕ → List ℕ
-portsFrom k zero = []
-portsFrom k (suc n) = k ∷ portsFrom (suc k) n
+unfoldable pub ports_from : ℕ → ℕ → List ℕ
+ports_from k zero = []
+ports_from k (suc n) = k ∷ ports_from (suc k) n
 
 -- the sum of all signals but that of port k, and those sums for all ports, before they are limited
-unfoldable pub othersOf : List ℤ → ℕ → ℤ
-othersOf signals k = sum_of (without k signals)
+unfoldable pub others_of : List ℤ → ℕ → ℤ
+others_of signals k = sum_of (without k signals)
 
-unfoldable pub sumsOf : List ℤ → List ℤ
-sumsOf signals = map (othersOf signals) (portsFrom 0 (length signals))
+unfoldable pub sums_of : List ℤ → List ℤ
+sums_of signals = map (others_of signals) (ports_from 0 (length signals))
 
 -- what each port hears
 unfoldable pub mixed : List ℤ → List ℤ
-mixed signals = map limit (sumsOf signals)
+mixed signals = map limit (sums_of signals)

@@ -9,35 +9,35 @@ use lib.ListN.{length, take, drop, get_or, set, drop_of_length-le}
 use lib.Seq.{drop-drop, drop-set-lt}
 use borrow.Author.Tests.{ne_eqb}
 use Rattle.laws.specs.Outcome.{Does}
-use Rattle.laws.specs.Turns.{drop-one, put_one, put_all}
-use Rattle.g722.specs.Cue.{spelt, gathered, carrying, dataCall}
+use Rattle.laws.specs.Turns.{drop_one, put_one, put_all}
+use Rattle.g722.specs.Cue.{spelt, gathered, carrying, data_call}
 
 -- one octet carries its bits
-pub fill-turn : (k i w : ℕ) (o from : List ℕ) → i < length o → w ≡ get_or o i 0 / 2 ^ k * 2 ^ k + spelt 0 (take k (drop (k * i) from))
+pub fill_turn : (k i w : ℕ) (o from : List ℕ) → i < length o → w ≡ get_or o i 0 / 2 ^ k * 2 ^ k + spelt 0 (take k (drop (k * i) from))
     → take (i + 1) (set o i w) ++ carrying k (drop (i + 1) (set o i w)) (drop (k * (i + 1)) from)
     ≡ take i o ++ carrying k (drop i o) (drop (k * i) from)
 unfolding carrying
-fill-turn k i w o from h e =
+fill_turn k i w o from h e =
     let f : k * (i + 1) ≡ k * i + k = omega arith in
     let l : i < i + 1 = omega arith in
-    rw (put_one o _ i w h, drop-set-lt (i + 1) o i w l, f, ← drop-drop k (k * i) from, drop-one o i 0 h, ← e)
+    rw (put_one o _ i w h, drop-set-lt (i + 1) o i w l, f, ← drop-drop k (k * i) from, drop_one o i 0 h, ← e)
 
 pub fill_end : (k i n : ℕ) (o from : List ℕ) → length o ≤ i → take i o ++ carrying k (drop i o) (drop n from) ≡ o
 unfolding carrying
 fill_end k i n o from h = put_all o _ i h (rw (drop_of_length-le o h))
 
 -- one byte is spelt
-pub gather-turn : (i n w : ℕ) (b from : List ℕ) → i < length b → i < n → w ≡ spelt 0 (take 8 (drop (8 * i) from))
+pub gather_turn : (i n w : ℕ) (b from : List ℕ) → i < length b → i < n → w ≡ spelt 0 (take 8 (drop (8 * i) from))
     → take (i + 1) (set b i w) ++ gathered (n - (i + 1)) (drop (8 * (i + 1)) from) ≡ take i b ++ gathered (n - i) (drop (8 * i) from)
 unfolding gathered
-gather-turn i n w b from h l e =
+gather_turn i n w b from h l e =
     let f : 8 * (i + 1) ≡ 8 * i + 8 = omega arith in
     let g : n - i ≡ suc (n - (i + 1)) = omega arith in
     rw (put_one b _ i w h, f, ← drop-drop 8 (8 * i) from, g, ← e)
 
-pub gather-end : (i n m : ℕ) (b from : List ℕ) → length b ≤ i → n ≤ i → take i b ++ gathered (n - i) (drop m from) ≡ b
+pub gather_end : (i n m : ℕ) (b from : List ℕ) → length b ≤ i → n ≤ i → take i b ++ gathered (n - i) (drop m from) ≡ b
 unfolding gathered
-gather-end i n m b from h l = let z : n - i ≡ 0 = omega arith in put_all b _ i h (rw z)
+gather_end i n m b from h l = let z : n - i ≡ 0 = omega arith in put_all b _ i h (rw z)
 
 -- the bits of octet i end before those of all n do
 pub inside : (k i n : ℕ) → i < n → k * i + k ≤ k * n
@@ -51,19 +51,19 @@ small (suc (suc zero)) o r h l s = omega arith
 small (suc (suc (suc k))) o r h l s = absurd (omega arith)
 
 module _ (k : ℕ) {b : ℕ} (e : b ≡ 2 ^ k) (o r : ℕ) where
-  pub octet-fits : k ≤ 2 → o < 256 → r < 2 ^ k → o - o % b + r < 256
-  octet-fits = rw e (small k o r)
+  pub octet_fits : k ≤ 2 → o < 256 → r < 2 ^ k → o - o % b + r < 256
+  octet_fits = rw e (small k o r)
 
   -- its last bits give way
-  pub octet-carries : {v : ℕ} → r ≡ v → o - o % b + r ≡ o / 2 ^ k * 2 ^ k + v
-  octet-carries f = rw (f, ← e) (omega (arith, div-add-mod' o b))
+  pub octet_carries : {v : ℕ} → r ≡ v → o - o % b + r ≡ o / 2 ^ k * 2 ^ k + v
+  octet_carries f = rw (f, ← e) (omega (arith, div-add-mod' o b))
 
 -- a data call's outcome: with number 0 the new content, else the old
 module _ {n number : ℕ} (e : n ≡ number) (old new : List ℕ) where
-  pub done : {now : List ℕ} → n ≡ 0 → now ≡ new → Does (dataCall number old new) (record { number = n; index = 0 }) now
-  unfolding dataCall
+  pub done : {now : List ℕ} → n ≡ 0 → now ≡ new → Does (data_call number old new) (record { number = n; index = 0 }) now
+  unfolding data_call
   done z f = record { answer = λ i. record { number = e i; index = 0 }; left = rw (sym e ∙ z) f }
 
-  pub refused : (n ≡ 0 → ⊥) → Does (dataCall number old new) (record { number = n; index = 0 }) old
-  unfolding dataCall
+  pub refused : (n ≡ 0 → ⊥) → Does (data_call number old new) (record { number = n; index = 0 }) old
+  unfolding data_call
   refused h = record { answer = λ i. record { number = e i; index = 0 }; left = rw (← e, ne_eqb n 0 h) }

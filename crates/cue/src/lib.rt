@@ -1,7 +1,7 @@
 // The cue channel: data bytes put into the last bits of octets, and taken out of them, highest bit first.
 ghost use Rattle.std.specs.Prelude.{◌≡◌, ◌+◌, ◌*◌, ◌^◌, ◌≤◌, ◌<◌, length, take, drop, get_or};
 ghost use Rattle.laws.specs.Outcome.{Does};
-ghost use Rattle.g722.specs.Cue.{bits_of, spelt, gathered, carrying, dataNumber, putCall, takeCall};
+ghost use Rattle.g722.specs.Cue.{bits_of, spelt, gathered, carrying, data_number, put_call, take_call};
 ghost use Rattle.cue.specs.Fills.{Fills};
 
 use g722::Moved;
@@ -65,7 +65,7 @@ fn gather(octets: &[u8], bytes: &mut [u8], k: usize)
 
 // A data call's number. More bytes than octets never fill them: they are refused before 8 * bytes is taken, which then fits.
 fn data_number(mode: u8, octets: usize, bytes: usize) -> u8
-    ensures { result ≡ dataNumber mode octets bytes }
+    ensures { result ≡ data_number mode octets bytes }
 {
     if 3 < mode {
         return 1;
@@ -87,7 +87,7 @@ fn data_number(mode: u8, octets: usize, bytes: usize) -> u8
 
 // Puts data bytes into octets, where the mode and the lengths allow it.
 pub fn put(mode: u8, octets: &mut [u8], bytes: &[u8]) -> Moved
-    ensures { Does (putCall mode octets.old bytes.now) result octets.new }
+    ensures { Does (put_call mode octets.old bytes.now) result octets.new }
 {
     let number = data_number(mode, octets.len(), bytes.len());
     if number == 0 {
@@ -101,7 +101,7 @@ pub fn put(mode: u8, octets: &mut [u8], bytes: &[u8]) -> Moved
 
 // Takes data bytes out of octets, where they allow it.
 pub fn take(mode: u8, octets: &[u8], bytes: &mut [u8]) -> Moved
-    ensures { Does (takeCall mode octets.now bytes.old) result bytes.new }
+    ensures { Does (take_call mode octets.now bytes.old) result bytes.new }
 {
     let number = data_number(mode, octets.len(), bytes.len());
     if number == 0 {

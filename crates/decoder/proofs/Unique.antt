@@ -7,8 +7,8 @@ use Rattle.decoder.proofs as decoder
 pub reset : LeavesOne decoder.reset.ended (λ M. decoder.reset.clauses) decoder.reset.Symbol.routine
 reset = equation (λ κs a l m. refl) (λ M. decoder.reset.Met.met)
 
-pub good-decoder : LeavesOne decoder.good_decoder.ended (λ M. decoder.good_decoder.clauses) decoder.good_decoder.Symbol.routine
-good-decoder = equation (λ κs a l m. refl) (λ M. decoder.good_decoder.Met.met)
+pub good_decoder : LeavesOne decoder.good_decoder.ended (λ M. decoder.good_decoder.clauses) decoder.good_decoder.Symbol.routine
+good_decoder = equation (λ κs a l m. refl) (λ M. decoder.good_decoder.Met.met)
 
 pub decode : LeavesOne decoder.decode.ended (λ M. decoder.decode.clauses) decoder.decode.Symbol.routine
 decode = call (coded_list coded_ℤ) (λ κs a l m e i. (tt, (tt, (tt, (e i, tt))))) (λ M. decoder.decode.Met.met)

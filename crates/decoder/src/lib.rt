@@ -4,8 +4,8 @@ mod signals;
 
 ghost use Rattle.std.specs.Prelude.{◌≡◌, true, ◌*◌, ◌≤◌, length};
 ghost use Rattle.laws.specs.Outcome.{Does};
-ghost use Rattle.g722.specs.Records.{resetDecoder, goodDecoder};
-ghost use Rattle.g722.specs.Decoding.{decoded, decodeCall};
+ghost use Rattle.g722.specs.Records.{reset_decoder, good_decoder};
+ghost use Rattle.g722.specs.Decoding.{decoded, decode_call};
 
 use bounds::{all_in_range, both, good_high, good_low, lesser, misfit, reset_band};
 use g722::{Decoded, Decoder, Pairs};
@@ -17,7 +17,7 @@ use signals::hear_block;
 
 // The record from which both ends start.
 pub fn reset() -> Decoder
-    ensures { result ≡ resetDecoder }
+    ensures { result ≡ reset_decoder }
 {
     Decoder {
         low: reset_band(32),
@@ -31,7 +31,7 @@ pub fn reset() -> Decoder
 
 // Whether a record keeps its bounds.
 pub fn good_decoder(d: Decoder) -> bool
-    ensures { result ≡ goodDecoder d }
+    ensures { result ≡ good_decoder d }
 {
     let low = d.low;
     let high = d.high;
@@ -79,7 +79,7 @@ fn in_turn(
     requires low_len { length low.old ≡ length octets.now }
     requires high_len { length high.old ≡ length octets.now }
     requires samples_len { length samples.old ≡ 2 * length octets.now }
-    requires d_value { goodDecoder d ≡ true }
+    requires d_value { good_decoder d ≡ true }
     ensures { Does (decoded mode d octets.now) result samples.new }
 {
     let heard = hear_block(mode, d, octets, low, high);
@@ -90,7 +90,7 @@ fn in_turn(
 fn block(mode: u8, d: Decoder, octets: &[u8], samples: &mut [i16]) -> Decoded
     requires octets_len_bound { length octets.now ≤ 160 }
     requires samples_len { length samples.old ≡ 2 * length octets.now }
-    requires d_value { goodDecoder d ≡ true }
+    requires d_value { good_decoder d ≡ true }
     ensures { Does (decoded mode d octets.now) result samples.new }
 {
     let n = octets.len();
@@ -103,7 +103,7 @@ fn block(mode: u8, d: Decoder, octets: &[u8], samples: &mut [i16]) -> Decoded
 fn run(mode: u8, d: Decoder, octets: &[u8], samples: &mut [i16]) -> Decoded
     requires octets_len_bound { length octets.now ≤ 8000 }
     requires samples_len { length samples.old ≡ 2 * length octets.now }
-    requires d_value { goodDecoder d ≡ true }
+    requires d_value { good_decoder d ≡ true }
     ensures { Does (decoded mode d octets.now) result samples.new }
 {
     let mut s = d;
@@ -121,7 +121,7 @@ fn run(mode: u8, d: Decoder, octets: &[u8], samples: &mut [i16]) -> Decoded
 
 // A decoding call: n octets to 2n samples, n at most 8000, in a told mode, 0 being no indication.
 pub fn decode(d: Decoder, told: u8, octets: &[u8], samples: &mut [i16]) -> Decoded
-    ensures { Does (decodeCall d told octets.now samples.old) result samples.new }
+    ensures { Does (decode_call d told octets.now samples.old) result samples.new }
 {
     let unfit = misfit(samples.len(), octets.len());
     let good = good_decoder(d);

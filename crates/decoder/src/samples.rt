@@ -1,8 +1,8 @@
 // The second step: low and high signals to samples, by the receive filter. It moves the past pairs, and leaves both bands.
 ghost use Rattle.std.specs.Prelude.{◌≡◌, true, ◌*◌, ◌≤◌, length};
 ghost use Rattle.laws.specs.Outcome.{Does};
-ghost use Rattle.g722.specs.Records.{allInRange, goodDecoder};
-ghost use Rattle.g722.specs.Steps.{joined, joinCall};
+ghost use Rattle.g722.specs.Records.{all_in_range, good_decoder};
+ghost use Rattle.g722.specs.Steps.{joined, join_call};
 
 use crate::{done, good_decoder, refused};
 use bounds::{all_in_range, both, first_bad, lesser, misfit};
@@ -13,9 +13,9 @@ pub(crate) fn join_block(d: Decoder, low: &[i16], high: &[i16], samples: &mut [i
     requires low_len_bound { length low.now ≤ 160 }
     requires high_len { length high.now ≡ length low.now }
     requires samples_len { length samples.old ≡ 2 * length low.now }
-    requires d_value { goodDecoder d ≡ true }
-    requires low_value { allInRange low.now ≡ true }
-    requires high_value { allInRange high.now ≡ true }
+    requires d_value { good_decoder d ≡ true }
+    requires low_value { all_in_range low.now ≡ true }
+    requires high_value { all_in_range high.now ≡ true }
     ensures { Does (joined d low.now high.now) result samples.new }
 {
     let low_band = d.low;
@@ -36,9 +36,9 @@ fn join_all(d: Decoder, low: &[i16], high: &[i16], samples: &mut [i16]) -> Decod
     requires low_len_bound { length low.now ≤ 8000 }
     requires high_len { length high.now ≡ length low.now }
     requires samples_len { length samples.old ≡ 2 * length low.now }
-    requires d_value { goodDecoder d ≡ true }
-    requires low_value { allInRange low.now ≡ true }
-    requires high_value { allInRange high.now ≡ true }
+    requires d_value { good_decoder d ≡ true }
+    requires low_value { all_in_range low.now ≡ true }
+    requires high_value { all_in_range high.now ≡ true }
     ensures { Does (joined d low.now high.now) result samples.new }
 {
     let mut s = d;
@@ -56,7 +56,7 @@ fn join_all(d: Decoder, low: &[i16], high: &[i16], samples: &mut [i16]) -> Decod
 
 // A call of the second step: n low and n high signals to 2n samples, n at most 8000. All are looked at before the first is joined.
 pub fn join(d: Decoder, low: &[i16], high: &[i16], samples: &mut [i16]) -> Decoded
-    ensures { Does (joinCall d low.now high.now samples.old) result samples.new }
+    ensures { Does (join_call d low.now high.now samples.old) result samples.new }
 {
     let unfit = misfit(samples.len(), low.len());
     let good = good_decoder(d);

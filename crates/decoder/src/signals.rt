@@ -2,8 +2,8 @@
 ghost use Rattle.std.specs.Prelude.{◌≡◌, true, map, ◌≤◌, length};
 ghost use Rattle.laws.specs.Outcome.{Does};
 ghost use Rattle.g722.specs.Arithmetic.{limit, overloads};
-ghost use Rattle.g722.specs.Records.{goodDecoder};
-ghost use Rattle.g722.specs.Steps.{unpaired, heard, hearCall};
+ghost use Rattle.g722.specs.Records.{good_decoder};
+ghost use Rattle.g722.specs.Steps.{unpaired, heard, hear_call};
 
 use crate::{done, good_decoder, refused};
 use arith::{limit, one, wide};
@@ -51,7 +51,7 @@ pub(crate) fn hear_block(
     requires octets_len_bound { length octets.now ≤ 160 }
     requires low_len { length low.old ≡ length octets.now }
     requires high_len { length high.old ≡ length octets.now }
-    requires d_value { goodDecoder d ≡ true }
+    requires d_value { good_decoder d ≡ true }
     ensures { Does (heard mode d octets.now) result (low.new, high.new) }
 {
     let low_band = d.low;
@@ -73,7 +73,7 @@ fn hear_all(mode: u8, d: Decoder, octets: &[u8], low: &mut [i16], high: &mut [i1
     requires octets_len_bound { length octets.now ≤ 8000 }
     requires low_len { length low.old ≡ length octets.now }
     requires high_len { length high.old ≡ length octets.now }
-    requires d_value { goodDecoder d ≡ true }
+    requires d_value { good_decoder d ≡ true }
     ensures { Does (heard mode d octets.now) result (low.new, high.new) }
 {
     let mut s = d;
@@ -97,7 +97,7 @@ fn hear_all(mode: u8, d: Decoder, octets: &[u8], low: &mut [i16], high: &mut [i1
 
 // A call of the first step: n octets to n low and n high signals, n at most 8000, in a told mode, 0 being no indication.
 pub fn hear(d: Decoder, told: u8, octets: &[u8], low: &mut [i16], high: &mut [i16]) -> Decoded
-    ensures { Does (hearCall d told octets.now low.old high.old) result
+    ensures { Does (hear_call d told octets.now low.old high.old) result
         (low.new, high.new) }
 {
     let unfit = unpaired(octets.len(), low.len(), high.len());

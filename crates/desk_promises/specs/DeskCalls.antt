@@ -4,22 +4,22 @@
 use Rattle.std.specs.Prelude.{◌≡◌, refl, true, List, [], ◌∷◌, ◌++◌, ℕ}
 use Rattle.std.proofs.Common.{sym, ap, ◌∙◌, append-nil, eqb-true}
 use Rattle.std.proofs.lemmas.Bool.{eqb-false}
-use Rattle.conference.specs.Tick.{octetsTo, deskAfter, tickLimited, tickCall}
+use Rattle.conference.specs.Tick.{octets_to, desk_after, tick_limited, tick_call}
 use Rattle.conference.specs.Cases.{refused, accepted}
 use Rattle.conference.specs.Own.{TickInput}
-use Rattle.conference.specs.Good.{GoodDesk, desk-stays-good}
+use Rattle.conference.specs.Good.{GoodDesk, desk_stays_good}
 use Rattle.conference.specs.declared.Desk.{Desk}
 use Rattle.conference.specs.declared.Ticked.{Ticked}
-use Rattle.promises.specs.Through.{Calls, Runs, through, taken, lefts, done, following, as-one-run, left-as-one-run}
+use Rattle.promises.specs.Through.{Calls, Runs, through, taken, lefts, done, following, as_one_run, left_as_one_run}
 
 -- ticks that are all done
-unfoldable pub deskRun : Desk → List TickInput → Desk
-deskRun desk [] = desk
-deskRun desk (i ∷ is) = deskRun (deskAfter desk i.modes i.octets) is
+unfoldable pub desk_run : Desk → List TickInput → Desk
+desk_run desk [] = desk
+desk_run desk (i ∷ is) = desk_run (desk_after desk i.modes i.octets) is
 
-unfoldable pub octetsRun : Desk → List TickInput → List ℕ
-octetsRun desk [] = []
-octetsRun desk (i ∷ is) = octetsTo desk i.modes i.octets ++ octetsRun (deskAfter desk i.modes i.octets) is
+unfoldable pub octets_run : Desk → List TickInput → List ℕ
+octets_run desk [] = []
+octets_run desk (i ∷ is) = octets_to desk i.modes i.octets ++ octets_run (desk_after desk i.modes i.octets) is
 
 abbrev pub ticking : Calls
 ticking =
@@ -29,12 +29,12 @@ ticking =
       Answer = Ticked;
       Given = TickInput;
       Item = ℕ;
-      call = λ d i. tickCall d i.modes i.octets i.room;
+      call = λ d i. tick_call d i.modes i.octets i.room;
       number = λ a. a.number;
       next = λ a. a.next;
       given = λ i. i ∷ [];
-      after = deskRun;
-      out = octetsRun;
+      after = desk_run;
+      out = octets_run;
     }
 
 module _ (d : Desk) (i : TickInput) (e : done ticking d i ≡ true) where
@@ -43,37 +43,37 @@ module _ (d : Desk) (i : TickInput) (e : done ticking d i ≡ true) where
         answer = record {
           number = 0;
           index = 0;
-          limited = tickLimited d i.modes i.octets;
-          next = deskAfter d i.modes i.octets;
+          limited = tick_limited d i.modes i.octets;
+          next = desk_after d i.modes i.octets;
         };
-        left = octetsTo d i.modes i.octets;
+        left = octets_to d i.modes i.octets;
       }
   outcome = (accepted d i.modes i.octets i.room (eqb-true _ _ e)).done
 
-pub ticking-runs : Runs ticking
-unfolding deskRun octetsRun
-ticking-runs =
+pub ticking_runs : Runs ticking
+unfolding desk_run octets_run
+ticking_runs =
     record {
       after_none = λ d. refl;
       out_none = λ d. refl;
       refused = λ d i e. (refused d i.modes i.octets i.room (eqb-false _ _ e)).0;
       ran = λ d i e. ap (λ x. x.answer.next) (outcome d i e);
-      left = λ d i e. ap (λ x. x.left) (outcome d i e) ∙ sym (append-nil (octetsTo d i.modes i.octets));
-      after-join = λ d i e rest. refl;
-      out-join = λ d i e rest.
-          ap (λ l. l ++ octetsRun (deskAfter d i.modes i.octets) rest) (sym (append-nil (octetsTo d i.modes i.octets)));
+      left = λ d i e. ap (λ x. x.left) (outcome d i e) ∙ sym (append-nil (octets_to d i.modes i.octets));
+      after_join = λ d i e rest. refl;
+      out_join = λ d i e rest.
+          ap (λ l. l ++ octets_run (desk_after d i.modes i.octets) rest) (sym (append-nil (octets_to d i.modes i.octets)));
     }
 
 -- THE THEOREMS
 module _ (d : Desk) (is : List TickInput) where
-  pub ticks-as-one-run : through ticking d is ≡ deskRun d (taken ticking d is)
-  ticks-as-one-run = as-one-run ticking ticking-runs d is
+  pub ticks_as_one_run : through ticking d is ≡ desk_run d (taken ticking d is)
+  ticks_as_one_run = as_one_run ticking ticking_runs d is
 
-  pub sent-as-one-run : lefts ticking d is ≡ octetsRun d (taken ticking d is)
-  sent-as-one-run = left-as-one-run ticking ticking-runs d is
+  pub sent_as_one_run : lefts ticking d is ≡ octets_run d (taken ticking d is)
+  sent_as_one_run = left_as_one_run ticking ticking_runs d is
 
-pub desk-always-good : (d : Desk) (is : List TickInput) → GoodDesk d → GoodDesk (through ticking d is)
+pub desk_always_good : (d : Desk) (is : List TickInput) → GoodDesk d → GoodDesk (through ticking d is)
 unfolding through
-desk-always-good d [] g = g
-desk-always-good d (i ∷ is) g =
-    desk-always-good (following ticking d i) is (desk-stays-good d i.modes i.octets i.room g)
+desk_always_good d [] g = g
+desk_always_good d (i ∷ is) g =
+    desk_always_good (following ticking d i) is (desk_stays_good d i.modes i.octets i.room g)

@@ -8,13 +8,13 @@ use denote.Signature.{type_at}
 use Rattle.laws.specs.One.{Allows, Lifetimes, claims}
 use Rattle.laws.specs.Outcome.{Does}
 use Rattle.mixer.proofs as mixer
-use Rattle.conference.specs.Tick.{tickCall}
-use Rattle.conference.specs.Own.{TickInput, NoneRefused, sentTo, AllButFor, Eight, own-octets-unheard}
+use Rattle.conference.specs.Tick.{tick_call}
+use Rattle.conference.specs.Own.{TickInput, NoneRefused, sent_to, AllButFor, Eight, own_octets_unheard}
 use Rattle.conference.specs.declared.Desk.{Desk}
 use Rattle.conference.specs.declared.Ticked.{Ticked}
-use Rattle.promises.specs.Made.{does-prop, Made, MadeFrom, last_of, taken_of, leftsOf, made-as-one-run, made-left-as-one-run}
+use Rattle.promises.specs.Made.{does_prop, Made, MadeFrom, last_of, taken_of, lefts_of, made_as_one_run, made_left_as_one_run}
 use Rattle.promises.specs.Allowed.{allowed, all_made, lent}
-use Rattle.desk_promises.specs.DeskCalls.{ticking, deskRun, octetsRun, ticking-runs}
+use Rattle.desk_promises.specs.DeskCalls.{ticking, desk_run, octets_run, ticking_runs}
 
 -- a tick that was made: the lifetimes and what was lent, what it answered, what it left
 pub record Ticking : Type 0 where
@@ -30,27 +30,27 @@ Ticks d k =
     Allows mixer.tick.ended (λ M. mixer.tick.clauses) k.lifetimes (d, (k.modes, (k.octets, (k.room, tt)))) k.answer
     (tt, (tt, (tt, (k.left, tt))))
 
-pub did-tick : (d : Desk) (k : Ticking) → Ticks d k
-    → Does (tickCall d k.modes.now k.octets.now k.room.now) k.answer k.left
-did-tick d k p =
+pub did_tick : (d : Desk) (k : Ticking) → Ticks d k
+    → Does (tick_call d k.modes.now k.octets.now k.room.now) k.answer k.left
+did_tick d k p =
     let answers = Coded-set (type_at (mixer.tick.ended).signature.result k.lifetimes).coded in
-    claims (does-prop answers (Coded-set (coded_list coded_ℕ))) p (λ e. e)
+    claims (does_prop answers (Coded-set (coded_list coded_ℕ))) p (λ e. e)
 
 abbrev pub tick_input : Ticking → TickInput
 tick_input k = record { modes = k.modes.now; octets = k.octets.now; room = k.room.now }
 
 abbrev pub tickings : Made ticking
 tickings =
-    record { Call = Ticking; input = tick_input; answer = λ k. k.answer; left = λ k. k.left; Allowed = Ticks; did = did-tick }
+    record { Call = Ticking; input = tick_input; answer = λ k. k.answer; left = λ k. k.left; Allowed = Ticks; did = did_tick }
 
 -- ---- THE THEOREMS of sequences: the desk and the octets of any ticks that were made
 
 module _ (d : Desk) (ks : List Ticking) (m : MadeFrom tickings d ks) where
-  pub running-desk : last_of tickings d ks ≡ deskRun d (taken_of tickings ks)
-  running-desk = made-as-one-run tickings ticking-runs d ks m
+  pub running_desk : last_of tickings d ks ≡ desk_run d (taken_of tickings ks)
+  running_desk = made_as_one_run tickings ticking_runs d ks m
 
-  pub running-sent : leftsOf tickings ks ≡ octetsRun d (taken_of tickings ks)
-  running-sent = made-left-as-one-run tickings ticking-runs d ks m
+  pub running_sent : lefts_of tickings ks ≡ octets_run d (taken_of tickings ks)
+  running_sent = made_left_as_one_run tickings ticking_runs d ks m
 
 -- ---- what a port is sent does not depend on its own octets
 
@@ -60,34 +60,34 @@ AllDone [] = Unit {0}
 AllDone (k ∷ ks) = (k.answer.number ≡ 0) × AllDone ks
 
 -- the octets that port n was sent
-abbrev pub sentOf : ℕ → List Ticking → List ℕ
-sentOf n ks = map (λ (k : Ticking). get_or k.left n 0) ks
+abbrev pub sent_of : ℕ → List Ticking → List ℕ
+sent_of n ks = map (λ (k : Ticking). get_or k.left n 0) ks
 
-none-refused : (d : Desk) (ks : List Ticking) → MadeFrom tickings d ks → AllDone ks → NoneRefused d (map tick_input ks)
+none_refused : (d : Desk) (ks : List Ticking) → MadeFrom tickings d ks → AllDone ks → NoneRefused d (map tick_input ks)
 unfolding MadeFrom
-none-refused d [] m a = tt
-none-refused d (k ∷ ks) m a =
-    let same = (did-tick d k m.0).answer in (
+none_refused d [] m a = tt
+none_refused d (k ∷ ks) m a =
+    let same = (did_tick d k m.0).answer in (
       sym (ap (λ x. x.number) same) ∙ a.0,
-      subst (λ (x : Ticked). NoneRefused x.next (map tick_input ks)) same (none-refused k.answer.next ks m.1 a.1),
+      subst (λ (x : Ticked). NoneRefused x.next (map tick_input ks)) same (none_refused k.answer.next ks m.1 a.1),
     )
 
-made-sent : (n : ℕ) (d : Desk) (ks : List Ticking) → MadeFrom tickings d ks → sentOf n ks ≡ sentTo n d (map tick_input ks)
-unfolding MadeFrom sentTo
-made-sent n d [] m = refl
-made-sent n d (k ∷ ks) m =
-    let did = did-tick d k m.0 in
+made_sent : (n : ℕ) (d : Desk) (ks : List Ticking) → MadeFrom tickings d ks → sent_of n ks ≡ sent_to n d (map tick_input ks)
+unfolding MadeFrom sent_to
+made_sent n d [] m = refl
+made_sent n d (k ∷ ks) m =
+    let did = did_tick d k m.0 in
     λ i. get_or (did.left i) n 0
-    ∷ (made-sent n k.answer.next ks m.1 ∙ ap (λ (a : Ticked). sentTo n a.next (map tick_input ks)) did.answer) i
+    ∷ (made_sent n k.answer.next ks m.1 ∙ ap (λ (a : Ticked). sent_to n a.next (map tick_input ks)) did.answer) i
 
 -- THE THEOREM
-pub running-own-unheard : (n : ℕ) (d : Desk) (ks js : List Ticking) → Eight d → n < d.ports
+pub running_own_unheard : (n : ℕ) (d : Desk) (ks js : List Ticking) → Eight d → n < d.ports
     → AllButFor n (map tick_input ks) (map tick_input js) → MadeFrom tickings d ks → MadeFrom tickings d js → AllDone ks → AllDone js
-    → sentOf n ks ≡ sentOf n js
-running-own-unheard n d ks js w h b m p a e =
-    made-sent n d ks m
-    ∙ own-octets-unheard n d (map tick_input ks) (map tick_input js) w h b (none-refused d ks m a) (none-refused d js p e)
-    ∙ sym (made-sent n d js p)
+    → sent_of n ks ≡ sent_of n js
+running_own_unheard n d ks js w h b m p a e =
+    made_sent n d ks m
+    ∙ own_octets_unheard n d (map tick_input ks) (map tick_input js) w h b (none_refused d ks m a) (none_refused d js p e)
+    ∙ sym (made_sent n d js p)
 
 -- ---- and any ticks can be made so
 
@@ -102,6 +102,6 @@ make d i =
       left = (ticking.call d i).left;
     }
 
-pub can-tick : (d : Desk) (is : List TickInput) → (ms : List Ticking) × MadeFrom tickings d ms × (map tickings.input ms ≡ is)
+pub can_tick : (d : Desk) (is : List TickInput) → (ms : List Ticking) × MadeFrom tickings d ms × (map tickings.input ms ≡ is)
 unfolding make lent
-can-tick = all_made tickings (record { make = make; asked = λ d i. refl; may = λ d i. allowed (record { answer = refl; left = refl }) })
+can_tick = all_made tickings (record { make = make; asked = λ d i. refl; may = λ d i. allowed (record { answer = refl; left = refl }) })

@@ -15,11 +15,11 @@ not_first : (a b : Bool) → (a || b) ≡ false → a ≡ false
 not_first true b e = no e
 not_first false b e = refl
 
-pub not-over : (n : ℕ) (t : Bool) → (ltb 8000 n || t) ≡ false → n ≤ 8000
-not-over n t e = ltb-false 8000 n (not_first (ltb 8000 n) t e)
+pub not_over : (n : ℕ) (t : Bool) → (ltb 8000 n || t) ≡ false → n ≤ 8000
+not_over n t e = ltb-false 8000 n (not_first (ltb 8000 n) t e)
 
-pub not-over-either : (n : ℕ) (s t : Bool) → (ltb 8000 n || s || t) ≡ false → n ≤ 8000
-not-over-either n s t e = not-over n s (not_first (ltb 8000 n || s) t e)
+pub not_over_either : (n : ℕ) (s t : Bool) → (ltb 8000 n || s || t) ≡ false → n ≤ 8000
+not_over_either n s t e = not_over n s (not_first (ltb 8000 n || s) t e)
 
 pub twice : (samples octets : ℕ) → misfit samples octets ≡ false → samples ≡ 2 * octets
 unfolding misfit
@@ -27,7 +27,7 @@ twice s o e = eqb-true s (2 * o) (passed (ltb 8000 o) (eqb s (2 * o)) e)
 
 pub few : (samples octets : ℕ) → misfit samples octets ≡ false → octets ≤ 8000
 unfolding misfit
-few s o e = not-over o (not (eqb s (2 * o))) e
+few s o e = not_over o (not (eqb s (2 * o))) e
 
 -- of the first step
 pub paired : (octets low high : ℕ) → unpaired octets low high ≡ false → (low ≡ octets) × (high ≡ octets)
@@ -37,9 +37,9 @@ paired o l h e = (
   eqb-true h o (passed (ltb 8000 o || not (eqb l o)) (eqb h o) e),
 )
 
-pub few-octets : (octets low high : ℕ) → unpaired octets low high ≡ false → octets ≤ 8000
+pub few_octets : (octets low high : ℕ) → unpaired octets low high ≡ false → octets ≤ 8000
 unfolding unpaired
-few-octets o l h e = not-over-either o (not (eqb l o)) (not (eqb h o)) e
+few_octets o l h e = not_over_either o (not (eqb l o)) (not (eqb h o)) e
 
 -- of the second
 pub matched : (low high samples : ℕ) → (misfit samples low || not (eqb high low)) ≡ false → (high ≡ low) × (samples ≡ 2 * low)
@@ -48,5 +48,5 @@ matched l h s e = (
   twice s l (not_first (misfit s l) (not (eqb h l)) e),
 )
 
-pub few-pairs : (low high samples : ℕ) → (misfit samples low || not (eqb high low)) ≡ false → low ≤ 8000
-few-pairs l h s e = few s l (not_first (misfit s l) (not (eqb h l)) e)
+pub few_pairs : (low high samples : ℕ) → (misfit samples low || not (eqb high low)) ≡ false → low ≤ 8000
+few_pairs l h s e = few s l (not_first (misfit s l) (not (eqb h l)) e)

@@ -3,103 +3,103 @@
 use Rattle.std.specs.Prelude.{◌≡◌, refl, true, false, ◌&&◌, List, [], ◌∷◌, ◌++◌, map, ℕ, zero, suc, ◌≤◌, ◌<◌, ℤ, pos, length, take, drop}
 use Rattle.std.proofs.Common.{sym, le_of_suc-le-suc, arith}
 use Rattle.std.specs.Int.Signed.{le_z_yes}
-use Rattle.laws.specs.Both.{both, left-true, right-true}
-use Rattle.laws.specs.Clamp.{clamp-within}
-use Rattle.laws.specs.Order.{by-test, no}
+use Rattle.laws.specs.Both.{both, left_true, right_true}
+use Rattle.laws.specs.Clamp.{clamp_within}
+use Rattle.laws.specs.Order.{by_test, no}
 use Rattle.g722.specs.Arithmetic.{neg, limit}
 use Rattle.g722.specs.Within.{is_within}
-use Rattle.g722.specs.Records.{in_range, allInRange}
-use Rattle.g722.specs.Coding.{firstBad}
-use Rattle.g722.specs.Steps.{firstBadPair}
-use Rattle.g722.specs.Decoding.{rlOf, rhOf}
+use Rattle.g722.specs.Records.{in_range, all_in_range}
+use Rattle.g722.specs.Coding.{first_bad}
+use Rattle.g722.specs.Steps.{first_bad_pair}
+use Rattle.g722.specs.Decoding.{rl_of, rh_of}
 use Rattle.g722.specs.declared.Band.{Band}
 use Rattle.g722.specs.declared.Decoder.{Decoder}
-use Rattle.facts.specs.Told.{Told, fullRun, samplesRun}
+use Rattle.facts.specs.Told.{Told, full_run, samples_run}
 
 -- ---- lists in range
 
-pub range-append : (xs ys : List ℤ) → allInRange xs ≡ true → allInRange ys ≡ true → allInRange (xs ++ ys) ≡ true
-unfolding allInRange
-range-append [] ys p q = q
-range-append (x ∷ xs) ys p q =
-    both (left-true (in_range x) (allInRange xs) p) (range-append xs ys (right-true (in_range x) (allInRange xs) p) q)
+pub range_append : (xs ys : List ℤ) → all_in_range xs ≡ true → all_in_range ys ≡ true → all_in_range (xs ++ ys) ≡ true
+unfolding all_in_range
+range_append [] ys p q = q
+range_append (x ∷ xs) ys p q =
+    both (left_true (in_range x) (all_in_range xs) p) (range_append xs ys (right_true (in_range x) (all_in_range xs) p) q)
 
-pub range-drop : (n : ℕ) (xs : List ℤ) → allInRange xs ≡ true → allInRange (drop n xs) ≡ true
-unfolding allInRange
-range-drop zero xs p = p
-range-drop (suc n) [] p = refl
-range-drop (suc n) (x ∷ xs) p = range-drop n xs (right-true (in_range x) (allInRange xs) p)
+pub range_drop : (n : ℕ) (xs : List ℤ) → all_in_range xs ≡ true → all_in_range (drop n xs) ≡ true
+unfolding all_in_range
+range_drop zero xs p = p
+range_drop (suc n) [] p = refl
+range_drop (suc n) (x ∷ xs) p = range_drop n xs (right_true (in_range x) (all_in_range xs) p)
 
-pub range-take : (n : ℕ) (xs : List ℤ) → allInRange xs ≡ true → allInRange (take n xs) ≡ true
-unfolding allInRange
-range-take zero xs p = refl
-range-take (suc n) [] p = refl
-range-take (suc n) (x ∷ xs) p =
-    both (left-true (in_range x) (allInRange xs) p) (range-take n xs (right-true (in_range x) (allInRange xs) p))
+pub range_take : (n : ℕ) (xs : List ℤ) → all_in_range xs ≡ true → all_in_range (take n xs) ≡ true
+unfolding all_in_range
+range_take zero xs p = refl
+range_take (suc n) [] p = refl
+range_take (suc n) (x ∷ xs) p =
+    both (left_true (in_range x) (all_in_range xs) p) (range_take n xs (right_true (in_range x) (all_in_range xs) p))
 
-pub all-clean : (s : List ℤ) → length s ≤ firstBad s → allInRange s ≡ true
-unfolding allInRange firstBad
-all-clean [] h = refl
-all-clean (x ∷ rest) h =
-    by-test (in_range x)
-    (λ e. let k : suc (length rest) ≤ suc (firstBad rest) = rw e at h in both e (all-clean rest (le_of_suc-le-suc k)))
+pub all_clean : (s : List ℤ) → length s ≤ first_bad s → all_in_range s ≡ true
+unfolding all_in_range first_bad
+all_clean [] h = refl
+all_clean (x ∷ rest) h =
+    by_test (in_range x)
+    (λ e. let k : suc (length rest) ≤ suc (first_bad rest) = rw e at h in both e (all_clean rest (le_of_suc-le-suc k)))
     (λ e. absurd (let k : suc (length rest) ≤ zero = rw e at h in omega arith))
 
 -- what the pass over all samples says of the first bad one
-pub none-bad : (s : List ℤ) → allInRange s ≡ true → length s ≤ firstBad s
-unfolding allInRange firstBad
-none-bad [] e = omega arith
-none-bad (x ∷ rest) e =
-    by-test (in_range x)
-    (λ t. let k : allInRange rest ≡ true = rw t at e in rw t (let l = none-bad rest k in omega arith))
+pub none_bad : (s : List ℤ) → all_in_range s ≡ true → length s ≤ first_bad s
+unfolding all_in_range first_bad
+none_bad [] e = omega arith
+none_bad (x ∷ rest) e =
+    by_test (in_range x)
+    (λ t. let k : all_in_range rest ≡ true = rw t at e in rw t (let l = none_bad rest k in omega arith))
     (λ t. no (sym (rw t at e)))
 
-pub some-bad : (s : List ℤ) → allInRange s ≡ false → firstBad s < length s
-unfolding allInRange firstBad
-some-bad [] e = no e
-some-bad (x ∷ rest) e =
-    by-test (in_range x)
-    (λ t. let k : allInRange rest ≡ false = rw t at e in rw t (let l = some-bad rest k in omega arith))
+pub some_bad : (s : List ℤ) → all_in_range s ≡ false → first_bad s < length s
+unfolding all_in_range first_bad
+some_bad [] e = no e
+some_bad (x ∷ rest) e =
+    by_test (in_range x)
+    (λ t. let k : all_in_range rest ≡ false = rw t at e in rw t (let l = some_bad rest k in omega arith))
     (λ t. rw t (omega arith))
 
 -- and of the first bad pair, where both have one length
-pub none-bad-pair : (low high : List ℤ) → length high ≡ length low → (allInRange low && allInRange high) ≡ true
-    → length low ≤ firstBadPair low high
-unfolding firstBadPair
-none-bad-pair low high n e =
-    let l = none-bad low (left-true (allInRange low) (allInRange high) e) in
-    let h = none-bad high (right-true (allInRange low) (allInRange high) e) in
+pub none_bad_pair : (low high : List ℤ) → length high ≡ length low → (all_in_range low && all_in_range high) ≡ true
+    → length low ≤ first_bad_pair low high
+unfolding first_bad_pair
+none_bad_pair low high n e =
+    let l = none_bad low (left_true (all_in_range low) (all_in_range high) e) in
+    let h = none_bad high (right_true (all_in_range low) (all_in_range high) e) in
     omega arith
 
-pub some-bad-pair : (low high : List ℤ) → length high ≡ length low → (allInRange low && allInRange high) ≡ false
-    → firstBadPair low high < length low
-unfolding firstBadPair
-some-bad-pair low high n e =
-    by-test (allInRange low)
-    (λ t. let h = some-bad high (rw t at e) in omega arith)
-    (λ t. let l = some-bad low t in omega arith)
+pub some_bad_pair : (low high : List ℤ) → length high ≡ length low → (all_in_range low && all_in_range high) ≡ false
+    → first_bad_pair low high < length low
+unfolding first_bad_pair
+some_bad_pair low high n e =
+    by_test (all_in_range low)
+    (λ t. let h = some_bad high (rw t at e) in omega arith)
+    (λ t. let l = some_bad low t in omega arith)
 
 -- ---- what is limited
 
-pub limit-in-range : (z : ℤ) → in_range (limit z) ≡ true
+pub limit_in_range : (z : ℤ) → in_range (limit z) ≡ true
 unfolding in_range limit
-limit-in-range z = let d = clamp-within (neg 16384) (pos 16383) z (le_z_yes tt) in is_within d.0 d.1
+limit_in_range z = let d = clamp_within (neg 16384) (pos 16383) z (le_z_yes tt) in is_within d.0 d.1
 
-pub limits-in-range : (zs : List ℤ) → allInRange (map limit zs) ≡ true
-unfolding allInRange
-limits-in-range [] = refl
-limits-in-range (z ∷ zs) = both (limit-in-range z) (limits-in-range zs)
+pub limits_in_range : (zs : List ℤ) → all_in_range (map limit zs) ≡ true
+unfolding all_in_range
+limits_in_range [] = refl
+limits_in_range (z ∷ zs) = both (limit_in_range z) (limits_in_range zs)
 
 -- RL and RH
-pub rl-in-range : (mode : ℕ) (s : Band) (o : ℕ) → in_range (rlOf mode s o) ≡ true
-unfolding rlOf
-rl-in-range mode s o = limit-in-range _
+pub rl_in_range : (mode : ℕ) (s : Band) (o : ℕ) → in_range (rl_of mode s o) ≡ true
+unfolding rl_of
+rl_in_range mode s o = limit_in_range _
 
-pub rh-in-range : (s : Band) (o : ℕ) → in_range (rhOf s o) ≡ true
-unfolding rhOf
-rh-in-range s o = limit-in-range _
+pub rh_in_range : (s : Band) (o : ℕ) → in_range (rh_of s o) ≡ true
+unfolding rh_of
+rh_in_range s o = limit_in_range _
 
 -- XOUT1 and XOUT2, over a run
-pub run-in-range : (d : Decoder) (ts : List Told) → allInRange (samplesRun d ts) ≡ true
-unfolding samplesRun
-run-in-range d ts = limits-in-range (fullRun d ts)
+pub run_in_range : (d : Decoder) (ts : List Told) → all_in_range (samples_run d ts) ≡ true
+unfolding samples_run
+run_in_range d ts = limits_in_range (full_run d ts)

@@ -34,8 +34,8 @@ abbrev pub negative : ℤ → Bool
 negative z = lt_z z (pos 0)
 
 -- SGi = SGj
-unfoldable pub sameSign : ℤ → ℤ → Bool
-sameSign a b = cond (negative a) (negative b) (not (negative b))
+unfoldable pub same_sign : ℤ → ℤ → Bool
+same_sign a b = cond (negative a) (negative b) (not (negative b))
 
 -- lo ≤ z ≤ hi
 unfoldable pub within : ℤ → ℤ → ℤ → Bool

@@ -4,8 +4,8 @@
 use Rattle.std.specs.Prelude.{cond, ℕ, ℤ, pos, drop}
 use mathlib.Core.List.{List, [], ◌∷◌, ◌++◌, zip_with}
 use Rattle.laws.specs.Clamp.{clamp}
-use Rattle.g722.specs.Arithmetic.{neg, shr, add, sub, mul, sameSign, equal}
-use Rattle.g722.specs.Quantise.{invqal, invqah, lowFactors, highFactors}
+use Rattle.g722.specs.Arithmetic.{neg, shr, add, sub, mul, same_sign, equal}
+use Rattle.g722.specs.Quantise.{invqal, invqah, low_factors, high_factors}
 use Rattle.g722.specs.declared.Zeros.{Zeros}
 use Rattle.g722.specs.declared.Poles.{Poles}
 use Rattle.g722.specs.declared.Factors.{Factors}
@@ -47,7 +47,7 @@ unfoldable pub gain : ℤ → ℤ
 gain d = cond (equal d (pos 0)) (pos 0) (pos 128)
 
 unfoldable pub upzero : ℤ → ℤ → ℤ → ℤ
-upzero d bi di = add (cond (sameSign d di) (gain d) (sub (pos 0) (gain d))) (mul bi (pos 32640))
+upzero d bi di = add (cond (same_sign d di) (gain d) (sub (pos 0) (gain d))) (mul bi (pos 32640))
 
 -- UPPOL2: WD1 = AL1 doubled twice; WD2 = WD1 with its sign turned where P and P1 agree, shifted right by 7;
 -- WD3 = ±128; WD4 = WD2 + WD3; WD5 = AL2 * 32512; and their sum limited, APL2
@@ -55,12 +55,12 @@ unfoldable pub four : ℤ → ℤ
 four a1 = add (add a1 a1) (add a1 a1)
 
 unfoldable pub turned : Poles → ℤ → ℤ
-turned s p = shr (cond (sameSign p s.p1) (sub (pos 0) (four s.a1)) (four s.a1)) 7
+turned s p = shr (cond (same_sign p s.p1) (sub (pos 0) (four s.a1)) (four s.a1)) 7
 
 unfoldable pub uppol2 : Poles → ℤ → ℤ
 uppol2 s p =
     clamp (neg 12288) (pos 12288)
-    (add (add (turned s p) (cond (sameSign p s.p2) (pos 128) (neg 128))) (mul s.a2 (pos 32512)))
+    (add (add (turned s p) (cond (same_sign p s.p2) (pos 128) (neg 128))) (mul s.a2 (pos 32512)))
 
 -- UPPOL1, after the new second coefficient: WD1 = ±192, WD2 = AL1 * 32640, and their sum held within WD3 = 15360 - APL2 at both ends
 unfoldable pub reach : ℤ → ℤ
@@ -69,23 +69,23 @@ reach apl2 = sub (pos 15360) apl2
 unfoldable pub uppol1 : Poles → ℤ → ℤ → ℤ
 uppol1 s apl2 p =
     clamp (sub (pos 0) (reach apl2)) (reach apl2)
-    (add (cond (sameSign p s.p1) (pos 192) (neg 192)) (mul s.a1 (pos 32640)))
+    (add (cond (same_sign p s.p1) (pos 192) (neg 192)) (mul s.a1 (pos 32640)))
 
 -- the next records: DELAYA and its like
-unfoldable pub nextZeros : Zeros → ℤ → Zeros
-nextZeros z d = record { b = zip_with (upzero d) z.b z.d; d = slide z.d d }
+unfoldable pub next_zeros : Zeros → ℤ → Zeros
+next_zeros z d = record { b = zip_with (upzero d) z.b z.d; d = slide z.d d }
 
-unfoldable pub nextPoles : Poles → ℤ → ℤ → Poles
-nextPoles s p r =
+unfoldable pub next_poles : Poles → ℤ → ℤ → Poles
+next_poles s p r =
     record { a1 = uppol1 s (uppol2 s p) p; a2 = uppol2 s p; r1 = r; r2 = s.r1; p1 = p; p2 = s.p1 }
 
-unfoldable pub nextBand : Band → ℤ → Factors → Band
-nextBand s d f =
-    record { zeros = nextZeros s.zeros d; poles = nextPoles s.poles (parrec s d) (recons s d); factors = f }
+unfoldable pub next_band : Band → ℤ → Factors → Band
+next_band s d f =
+    record { zeros = next_zeros s.zeros d; poles = next_poles s.poles (parrec s d) (recons s d); factors = f }
 
 -- each band after its word, at either end
-unfoldable pub lowAfter : Band → ℕ → Band
-lowAfter s il = nextBand s (invqal il s.factors.scale) (lowFactors s.factors il)
+unfoldable pub low_after : Band → ℕ → Band
+low_after s il = next_band s (invqal il s.factors.scale) (low_factors s.factors il)
 
-unfoldable pub highAfter : Band → ℕ → Band
-highAfter s ih = nextBand s (invqah ih s.factors.scale) (highFactors s.factors ih)
+unfoldable pub high_after : Band → ℕ → Band
+high_after s ih = next_band s (invqah ih s.factors.scale) (high_factors s.factors ih)

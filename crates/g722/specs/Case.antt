@@ -4,12 +4,12 @@
 use Rattle.std.specs.Prelude.{◌≡◌, refl, Bool, true, false, cond, ℕ, ◌*◌, ◌/◌, eqb, ℤ, pos, negsuc, length, replicate}
 use Rattle.std.proofs.Common.{sym, ap, ap₂, eqb-true}
 use mathlib.Core.List.{List, [], ◌∷◌, ◌++◌, map, cons≢nil}
-use Rattle.laws.specs.Order.{by-test, no}
+use Rattle.laws.specs.Order.{by_test, no}
 use Rattle.laws.specs.Outcome.{Outcome}
-use Rattle.g722.specs.Records.{resetCoder, resetDecoder}
-use Rattle.g722.specs.Coding.{codeCall}
-use Rattle.g722.specs.Decoding.{decodeCall}
-use Rattle.g722.specs.Steps.{hearCall, joinCall}
+use Rattle.g722.specs.Records.{reset_coder, reset_decoder}
+use Rattle.g722.specs.Coding.{code_call}
+use Rattle.g722.specs.Decoding.{decode_call}
+use Rattle.g722.specs.Steps.{hear_call, join_call}
 use Rattle.g722.specs.declared.Coder.{Coder}
 use Rattle.g722.specs.declared.Decoder.{Decoder}
 use Rattle.g722.specs.declared.Moved.{Moved}
@@ -47,24 +47,24 @@ failing (k ∷ rest) = cond (agree k.got k.want) [] (k ∷ []) ++ failing rest
 
 -- ---- the law
 
-same-is : (a b : ℤ) → same a b ≡ true → a ≡ b
-same-is (pos m) (pos n) e = ap pos (eqb-true m n e)
-same-is (pos m) (negsuc n) e = no (sym e)
-same-is (negsuc m) (pos n) e = no (sym e)
-same-is (negsuc m) (negsuc n) e = ap negsuc (eqb-true m n e)
+same_is : (a b : ℤ) → same a b ≡ true → a ≡ b
+same_is (pos m) (pos n) e = ap pos (eqb-true m n e)
+same_is (pos m) (negsuc n) e = no (sym e)
+same_is (negsuc m) (pos n) e = no (sym e)
+same_is (negsuc m) (negsuc n) e = ap negsuc (eqb-true m n e)
 
-agree-is : (gs ws : List ℤ) → agree gs ws ≡ true → gs ≡ ws
-agree-is [] [] e = refl
-agree-is [] (w ∷ ws) e = no (sym e)
-agree-is (g ∷ gs) [] e = no (sym e)
-agree-is (g ∷ gs) (w ∷ ws) e =
-    by-test (same g w) (λ t. ap₂ ◌∷◌ (same-is g w t) (agree-is gs ws (rw t at e))) (λ t. no (sym (rw t at e)))
+agree_is : (gs ws : List ℤ) → agree gs ws ≡ true → gs ≡ ws
+agree_is [] [] e = refl
+agree_is [] (w ∷ ws) e = no (sym e)
+agree_is (g ∷ gs) [] e = no (sym e)
+agree_is (g ∷ gs) (w ∷ ws) e =
+    by_test (same g w) (λ t. ap₂ ◌∷◌ (same_is g w t) (agree_is gs ws (rw t at e))) (λ t. no (sym (rw t at e)))
 
 pub all_hold : (ks : List Case) → failing ks ≡ [] → Hold ks
 all_hold [] e = tt
 all_hold (k ∷ rest) e =
-    by-test (agree k.got k.want)
-    (λ t. (agree-is k.got k.want t, all_hold rest (rw t at e)))
+    by_test (agree k.got k.want)
+    (λ t. (agree_is k.got k.want t, all_hold rest (rw t at e)))
     (λ t. absurd (cons≢nil (rw t at e)))
 
 -- ---- how a call is put
@@ -78,31 +78,31 @@ truths ts = map (λ (t : Bool). cond t (pos 1) (pos 0)) ts
 
 -- what coding from reset sends, and what decoding from reset in a told mode gives to hear
 abbrev pub sent : List ℤ → List ℤ
-sent samples = these (codeCall resetCoder samples (replicate (length samples / 2) 0)).left
+sent samples = these (code_call reset_coder samples (replicate (length samples / 2) 0)).left
 
 abbrev pub heard : ℕ → List ℕ → List ℤ
-heard told octets = (decodeCall resetDecoder told octets (replicate (2 * length octets) (pos 0))).left
+heard told octets = (decode_call reset_decoder told octets (replicate (2 * length octets) (pos 0))).left
 
 -- a call's number, its index and its count, and then what it leaves
 abbrev pub codes : Coder → List ℤ → List ℕ → List ℤ
 codes c samples octets =
-    let done = codeCall c samples octets in
+    let done = code_call c samples octets in
     these (done.answer.number ∷ done.answer.index ∷ done.answer.limited ∷ done.left)
 
 abbrev pub decodes : Decoder → ℕ → List ℕ → List ℤ → List ℤ
 decodes d told octets samples =
-    let done = decodeCall d told octets samples in
+    let done = decode_call d told octets samples in
     these (done.answer.number ∷ done.answer.index ∷ done.answer.limited ∷ []) ++ done.left
 
 -- the low signals before the high ones
 abbrev pub hears : Decoder → ℕ → List ℕ → List ℤ → List ℤ → List ℤ
 hears d told octets low high =
-    let done = hearCall d told octets low high in
+    let done = hear_call d told octets low high in
     these (done.answer.number ∷ done.answer.index ∷ done.answer.limited ∷ []) ++ done.left.0 ++ done.left.1
 
 abbrev pub joins : Decoder → List ℤ → List ℤ → List ℤ → List ℤ
 joins d low high samples =
-    let done = joinCall d low high samples in
+    let done = join_call d low high samples in
     these (done.answer.number ∷ done.answer.index ∷ done.answer.limited ∷ []) ++ done.left
 
 abbrev pub moves : Outcome Moved (List ℕ) → List ℤ

@@ -30,27 +30,27 @@ carrying k [] from = []
 carrying k (o ∷ rest) from = (o / 2 ^ k * 2 ^ k + spelt 0 (take k from)) ∷ carrying k rest (drop k from)
 
 -- how many bits of an octet mode 2 or 3 gives up
-abbrev pub givenUp : ℕ → ℕ
-givenUp mode = mode - 1
+abbrev pub given_up : ℕ → ℕ
+given_up mode = mode - 1
 
 -- the data must fill the octets, at most 8000
 unfoldable pub unfilled : ℕ → ℕ → ℕ → Bool
-unfilled mode octets bytes = ltb 8000 octets || not (eqb (8 * bytes) (givenUp mode * octets))
+unfilled mode octets bytes = ltb 8000 octets || not (eqb (8 * bytes) (given_up mode * octets))
 
 -- a data call's number: 1, then 5, then 3
-unfoldable pub dataNumber : ℕ → ℕ → ℕ → ℕ
-dataNumber mode octets bytes = cond (ltb 3 mode) 1 (cond (ltb mode 2) 5 (cond (unfilled mode octets bytes) 3 0))
+unfoldable pub data_number : ℕ → ℕ → ℕ → ℕ
+data_number mode octets bytes = cond (ltb 3 mode) 1 (cond (ltb mode 2) 5 (cond (unfilled mode octets bytes) 3 0))
 
 -- what a data call answers, and leaves: `old` if it is refused, else `new`
-unfoldable pub dataCall : ℕ → List ℕ → List ℕ → Outcome Moved (List ℕ)
-dataCall number old new = record { answer = record { number = number; index = 0 }; left = cond (eqb number 0) new old }
+unfoldable pub data_call : ℕ → List ℕ → List ℕ → Outcome Moved (List ℕ)
+data_call number old new = record { answer = record { number = number; index = 0 }; left = cond (eqb number 0) new old }
 
 -- putting data into lent octets
-unfoldable pub putCall : ℕ → List ℕ → List ℕ → Outcome Moved (List ℕ)
-putCall mode octets bytes =
-    dataCall (dataNumber mode (length octets) (length bytes)) octets (carrying (givenUp mode) octets (bits_of 8 bytes))
+unfoldable pub put_call : ℕ → List ℕ → List ℕ → Outcome Moved (List ℕ)
+put_call mode octets bytes =
+    data_call (data_number mode (length octets) (length bytes)) octets (carrying (given_up mode) octets (bits_of 8 bytes))
 
 -- taking it out of octets into lent bytes
-unfoldable pub takeCall : ℕ → List ℕ → List ℕ → Outcome Moved (List ℕ)
-takeCall mode octets bytes =
-    dataCall (dataNumber mode (length octets) (length bytes)) bytes (gathered (length bytes) (bits_of (givenUp mode) octets))
+unfoldable pub take_call : ℕ → List ℕ → List ℕ → Outcome Moved (List ℕ)
+take_call mode octets bytes =
+    data_call (data_number mode (length octets) (length bytes)) bytes (gathered (length bytes) (bits_of (given_up mode) octets))

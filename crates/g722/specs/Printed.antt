@@ -33,8 +33,8 @@ ql5 =
 unfoldable pub ql4 : List ℤ
 ql4 = pos 0 ∷ pos 29212 ∷ pos 63107 ∷ pos 103485 ∷ pos 153439 ∷ pos 219006 ∷ pos 314822 ∷ pos 499498 ∷ []
 
-unfoldable pub weightL : List ℤ
-weightL = neg 2930 ∷ neg 1465 ∷ pos 2832 ∷ pos 8398 ∷ pos 16309 ∷ pos 26270 ∷ pos 58496 ∷ pos 148535 ∷ []
+unfoldable pub weight_l : List ℤ
+weight_l = neg 2930 ∷ neg 1465 ∷ pos 2832 ∷ pos 8398 ∷ pos 16309 ∷ pos 26270 ∷ pos 58496 ∷ pos 148535 ∷ []
 
 -- HU of Table 6, Q2 and WH of Table 8
 unfoldable pub hu : List ℤ
@@ -43,8 +43,8 @@ hu = pos 110156 ∷ []
 unfoldable pub ql2 : List ℤ
 ql2 = pos 39453 ∷ pos 180859 ∷ []
 
-unfoldable pub weightH : List ℤ
-weightH = neg 10449 ∷ pos 38965 ∷ []
+unfoldable pub weight_h : List ℤ
+weight_h = neg 10449 ∷ pos 38965 ∷ []
 
 -- a row of Tables 16 to 21: a word beside its sign and interval
 pub record Row : Type 0 where

@@ -4,9 +4,9 @@ use Rattle.std.specs.Prelude.{refl, List, [], ◌∷◌, pos, drop, replicate}
 use Rattle.g722.specs.Arithmetic.{neg}
 use Rattle.g722.specs.Tables.{q6}
 use Rattle.g722.specs.Quantise.{quantise, quantl, logscl, scalel, scaleh}
-use Rattle.g722.specs.Records.{resetCoder, resetDecoder}
-use Rattle.g722.specs.Coding.{codeCall}
-use Rattle.g722.specs.Cue.{putCall}
+use Rattle.g722.specs.Records.{reset_coder, reset_decoder}
+use Rattle.g722.specs.Coding.{code_call}
+use Rattle.g722.specs.Cue.{put_call}
 use Rattle.g722.specs.Opened.{meaning}
 use Rattle.g722.specs.Case.{Case, ◌gives◌, Hold, all_hold, these, sent, heard, codes, decodes, moves}
 
@@ -38,17 +38,17 @@ sums1to12 =
     ∷ ((scalel (pos 0) ∷ scaleh (pos 0) ∷ scalel (pos 18432) ∷ scaleh (pos 22528) ∷ [])
     gives (pos 32 ∷ pos 8 ∷ pos 16384 ∷ pos 16384 ∷ []))
     -- 9
-    ∷ (moves (putCall 3 (replicate 4 0xFA) (0xB1 ∷ [])) gives these (0 ∷ 0 ∷ 0xFA ∷ 0xFB ∷ 0xF8 ∷ 0xF9 ∷ []))
+    ∷ (moves (put_call 3 (replicate 4 0xFA) (0xB1 ∷ [])) gives these (0 ∷ 0 ∷ 0xFA ∷ 0xFB ∷ 0xF8 ∷ 0xF9 ∷ []))
     -- 10
-    ∷ (moves (putCall 2 (replicate 8 0xFA) (0x81 ∷ []))
+    ∷ (moves (put_call 2 (replicate 8 0xFA) (0x81 ∷ []))
     gives these (0 ∷ 0 ∷ 0xFB ∷ 0xFA ∷ 0xFA ∷ 0xFA ∷ 0xFA ∷ 0xFA ∷ 0xFA ∷ 0xFB ∷ []))
     -- 11
-    ∷ (codes resetCoder (pos 16384 ∷ pos 0 ∷ []) (7 ∷ []) gives these (4 ∷ 0 ∷ 0 ∷ 7 ∷ []))
-    ∷ ((pos (codeCall resetCoder (pos 16383 ∷ neg 16384 ∷ []) (7 ∷ [])).answer.number ∷ []) gives (pos 0 ∷ []))
+    ∷ (codes reset_coder (pos 16384 ∷ pos 0 ∷ []) (7 ∷ []) gives these (4 ∷ 0 ∷ 0 ∷ 7 ∷ []))
+    ∷ ((pos (code_call reset_coder (pos 16383 ∷ neg 16384 ∷ []) (7 ∷ [])).answer.number ∷ []) gives (pos 0 ∷ []))
     -- 12
-    ∷ (decodes resetDecoder 4 (0xFA ∷ []) (pos 1 ∷ pos 2 ∷ pos 3 ∷ []) gives these (1 ∷ 0 ∷ 0 ∷ 1 ∷ 2 ∷ 3 ∷ []))
+    ∷ (decodes reset_decoder 4 (0xFA ∷ []) (pos 1 ∷ pos 2 ∷ pos 3 ∷ []) gives these (1 ∷ 0 ∷ 0 ∷ 1 ∷ 2 ∷ 3 ∷ []))
     ∷ []
 
-pub sums-hold : Hold sums1to12
+pub sums_hold : Hold sums1to12
 unfolding sums1to12 meaning
-sums-hold = all_hold sums1to12 refl
+sums_hold = all_hold sums1to12 refl

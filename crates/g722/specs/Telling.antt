@@ -3,18 +3,18 @@
 -- Assumes nothing.
 use Rattle.std.specs.Prelude.{◌≡◌, refl, cond, List, [], ◌∷◌, ◌++◌, map, ℕ, ◌*◌, ◌-◌, ◌/◌, ℤ, pos, neg_ℤ, length, drop, take, replicate}
 use Rattle.std.specs.Int.Signed.{mag}
-use Rattle.g722.specs.Arithmetic.{neg, mul, negative, sameSign, limited, overloads}
+use Rattle.g722.specs.Arithmetic.{neg, mul, negative, same_sign, limited, overloads}
 use Rattle.g722.specs.Tables.{h, q6}
 use Rattle.g722.specs.Quantise.{subtra, level, quantise, quanth, invqal, invqah, invqbl, logscl, logsch}
-use Rattle.g722.specs.Band.{slide, sums, filtep, predic, parrec, recons, upzero, four, turned, uppol2, uppol1, nextPoles, nextBand}
-use Rattle.g722.specs.Band.{lowAfter, highAfter}
+use Rattle.g722.specs.Band.{slide, sums, filtep, predic, parrec, recons, upzero, four, turned, uppol2, uppol1, next_poles, next_band}
+use Rattle.g722.specs.Band.{low_after, high_after}
 use Rattle.g722.specs.Mirror.{lowt, hight, accumc, accumd}
 use Rattle.g722.specs.Octet.{high_word}
-use Rattle.g722.specs.Records.{resetBand, resetCoder, resetDecoder}
-use Rattle.g722.specs.Coding.{window, ilOf, ihOf, coderStep, splitInFull, misfit, codeCall}
-use Rattle.g722.specs.Decoding.{rlOf, rhOf, decoderStep, decodeCall}
-use Rattle.g722.specs.Steps.{hearCall, joinCall}
-use Rattle.g722.specs.Cue.{unfilled, putCall, takeCall}
+use Rattle.g722.specs.Records.{reset_band, reset_coder, reset_decoder}
+use Rattle.g722.specs.Coding.{window, il_of, ih_of, coder_step, split_in_full, misfit, code_call}
+use Rattle.g722.specs.Decoding.{rl_of, rh_of, decoder_step, decode_call}
+use Rattle.g722.specs.Steps.{hear_call, join_call}
+use Rattle.g722.specs.Cue.{unfilled, put_call, take_call}
 use Rattle.g722.specs.Opened.{meaning}
 use Rattle.g722.specs.Case.{Case, ◌gives◌, Hold, all_hold, these, truths, sent, heard, codes, decodes, hears, joins, moves}
 use Rattle.g722.specs.declared.Poles.{Poles}
@@ -35,20 +35,20 @@ abbrev parted : ℤ → ℤ → Poles
 parted a1 a2 = poles a1 a2 (pos 0) (pos 0) (neg 1) (pos 0)
 
 abbrev band : Poles → ℤ → ℤ → Band
-band s log scale = record { zeros = (resetBand (pos 0)).zeros; poles = s; factors = record { log = log; scale = scale } }
+band s log scale = record { zeros = (reset_band (pos 0)).zeros; poles = s; factors = record { log = log; scale = scale } }
 
 abbrev low : Band
-low = resetBand (pos 32)
+low = reset_band (pos 32)
 
 abbrev high : Band
-high = resetBand (pos 8)
+high = reset_band (pos 8)
 
 -- with pole coefficients, the first and the second
-abbrev lowWith : ℤ → ℤ → Band
-lowWith a1 a2 = band (still a1 a2) (pos 0) (pos 32)
+abbrev low_with : ℤ → ℤ → Band
+low_with a1 a2 = band (still a1 a2) (pos 0) (pos 32)
 
-abbrev highWith : ℤ → ℤ → Band
-highWith a1 a2 = band (still a1 a2) (pos 0) (pos 8)
+abbrev high_with : ℤ → ℤ → Band
+high_with a1 a2 = band (still a1 a2) (pos 0) (pos 8)
 
 -- with a log factor and a scale factor
 abbrev scaled : ℤ → ℤ → Band
@@ -96,24 +96,24 @@ decoder l r rl rh =
 
 -- broken by its second pole coefficient; and good, with bands at full swing and past pairs
 abbrev broken : Decoder
-broken = decoder (lowWith (pos 0) (pos 12289)) high (pos 0) (pos 0)
+broken = decoder (low_with (pos 0) (pos 12289)) high (pos 0) (pos 0)
 
 abbrev full : Decoder
 full = decoder (up (pos 32)) (down (pos 8)) (pos 3) (pos 4)
 
 -- the numbers that empty calls give to records, as a host might hand them in
-abbrev coderNumbers : List Coder → List ℤ
-coderNumbers cs = map (λ (c : Coder). pos (codeCall c [] []).answer.number) cs
+abbrev coder_numbers : List Coder → List ℤ
+coder_numbers cs = map (λ (c : Coder). pos (code_call c [] []).answer.number) cs
 
-abbrev decoderNumbers : List Decoder → List ℤ
-decoderNumbers ds = map (λ (d : Decoder). pos (decodeCall d 0 [] []).answer.number) ds
+abbrev decoder_numbers : List Decoder → List ℤ
+decoder_numbers ds = map (λ (d : Decoder). pos (decode_call d 0 [] []).answer.number) ds
 
 -- the loudest samples that have these signs
 abbrev loudest : List ℤ → List ℤ
 loudest xs = map (λ (x : ℤ). cond (negative x) (neg 16384) (pos 16383)) xs
 
-abbrev turnedRound : List ℤ → List ℤ
-turnedRound xs = map neg_ℤ xs
+abbrev turned_round : List ℤ → List ℤ
+turned_round xs = map neg_ℤ xs
 
 -- every second entry, from the first or the second on; and all, every second one negated
 abbrev evens : List ℤ → List ℤ
@@ -130,17 +130,17 @@ alternating (x ∷ []) = neg_ℤ x ∷ []
 alternating (x ∷ y ∷ rest) = neg_ℤ x ∷ y ∷ alternating rest
 
 -- one loud sample among zeros, the oldest or the newest of so many
-abbrev firstOf24 : List ℤ
-firstOf24 = pos 16383 ∷ replicate 23 (pos 0)
+abbrev first_of24 : List ℤ
+first_of24 = pos 16383 ∷ replicate 23 (pos 0)
 
-abbrev lastOf24 : List ℤ
-lastOf24 = replicate 23 (pos 0) ++ (pos 16383 ∷ [])
+abbrev last_of24 : List ℤ
+last_of24 = replicate 23 (pos 0) ++ (pos 16383 ∷ [])
 
-abbrev firstOf12 : List ℤ
-firstOf12 = pos 16383 ∷ replicate 11 (pos 0)
+abbrev first_of12 : List ℤ
+first_of12 = pos 16383 ∷ replicate 11 (pos 0)
 
-abbrev lastOf12 : List ℤ
-lastOf12 = replicate 11 (pos 0) ++ (pos 16383 ∷ [])
+abbrev last_of12 : List ℤ
+last_of12 = replicate 11 (pos 0) ++ (pos 16383 ∷ [])
 
 abbrev zeros : List ℤ
 zeros = replicate 12 (pos 0)
@@ -161,11 +161,11 @@ forty =
 abbrev twelve : List ℕ
 twelve = 0x04 ∷ 0x20 ∷ 0x84 ∷ 0xA0 ∷ 0x04 ∷ 0xE4 ∷ 0x21 ∷ 0x9B ∷ 0x60 ∷ 0x05 ∷ 0xC8 ∷ 0x37 ∷ []
 
-abbrev afterTwo : Coder
-afterTwo = coderStep (coderStep resetCoder (pos 900) (neg 700)) (neg 500) (pos 300)
+abbrev after_two : Coder
+after_two = coder_step (coder_step reset_coder (pos 900) (neg 700)) (neg 500) (pos 300)
 
-abbrev heardTwo : Decoder
-heardTwo = decoderStep 1 (decoderStep 1 resetDecoder 0x04) 0x20
+abbrev heard_two : Decoder
+heard_two = decoder_step 1 (decoder_step 1 reset_decoder 0x04) 0x20
 
 -- their signals, as the second codec has them: the low ones in each mode, and the high ones, which no mode changes
 abbrev low1 : List ℤ
@@ -184,21 +184,21 @@ abbrev highs : List ℤ
 highs = neg 2 ∷ neg 2 ∷ pos 2 ∷ pos 1 ∷ neg 8 ∷ neg 3 ∷ neg 8 ∷ pos 2 ∷ neg 7 ∷ neg 13 ∷ pos 1 ∷ neg 16 ∷ []
 
 -- the twelve heard from reset, what hearing two leaves, and what joining leaves
-abbrev hearsTwelve : ℕ → List ℤ
-hearsTwelve told = hears resetDecoder told twelve zeros zeros
+abbrev hears_twelve : ℕ → List ℤ
+hears_twelve told = hears reset_decoder told twelve zeros zeros
 
-abbrev twoHeard : Decoder
-twoHeard = (hearCall full 1 (take 2 twelve) (pos 0 ∷ pos 0 ∷ []) (pos 0 ∷ pos 0 ∷ [])).answer.next
+abbrev two_heard : Decoder
+two_heard = (hear_call full 1 (take 2 twelve) (pos 0 ∷ pos 0 ∷ []) (pos 0 ∷ pos 0 ∷ [])).answer.next
 
-abbrev oneJoined : Decoder
-oneJoined = (joinCall full (pos 5 ∷ []) (pos 6 ∷ []) (pos 0 ∷ pos 0 ∷ [])).answer.next
+abbrev one_joined : Decoder
+one_joined = (join_call full (pos 5 ∷ []) (pos 6 ∷ []) (pos 0 ∷ pos 0 ∷ [])).answer.next
 
 -- a coder and a decoder with their whole past; and a band whose prediction is -16362 or -16361, or near the upper end
-abbrev coderOn : Band → Band → List ℤ → Coder
-coderOn l r past = record { low = l; high = r; past = past }
+abbrev coder_on : Band → Band → List ℤ → Coder
+coder_on l r past = record { low = l; high = r; past = past }
 
-abbrev decoderOn : List ℤ → List ℤ → Decoder
-decoderOn rl rh = record { low = low; high = high; past = record { rl = take 11 rl; rh = take 11 rh } }
+abbrev decoder_on : List ℤ → List ℤ → Decoder
+decoder_on rl rh = record { low = low; high = high; past = record { rl = take 11 rl; rh = take 11 rh } }
 
 abbrev nearly : ℤ → ℤ → ℤ → Band
 nearly r1 r2 scale = band (poles (pos 27648) (neg 12288) r1 r2 (pos 0) (pos 0)) (pos 0) scale
@@ -208,21 +208,21 @@ abbrev sixth : ℤ → List ℤ
 sixth x = replicate 5 (pos 0) ++ (x ∷ replicate 6 (pos 0))
 
 -- what is said of coding the samples behind the 22 first; of one octet heard near the lower end; of the last of twelve pairs joined
-abbrev lampCoding : List ℤ → List ℤ
-lampCoding xs = take 3 (codes (coderOn low high (take 22 xs)) (drop 22 xs) (replicate ((length xs - 22) / 2) 7))
+abbrev lamp_coding : List ℤ → List ℤ
+lamp_coding xs = take 3 (codes (coder_on low high (take 22 xs)) (drop 22 xs) (replicate ((length xs - 22) / 2) 7))
 
-abbrev lampHearing : ℤ → ℕ → List ℤ
-lampHearing r2 told =
+abbrev lamp_hearing : ℤ → ℕ → List ℤ
+lamp_hearing r2 told =
     hears (decoder (nearly (neg 16384) (neg_ℤ r2) (pos 32)) high (pos 0) (pos 0)) told (0x04 ∷ []) (pos 5 ∷ []) (pos 6 ∷ [])
 
-abbrev lampJoining : List ℤ → List ℤ → List ℤ
-lampJoining rl rh = joins (decoderOn rl rh) (drop 11 rl) (drop 11 rh) (pos 5 ∷ pos 6 ∷ [])
+abbrev lamp_joining : List ℤ → List ℤ → List ℤ
+lamp_joining rl rh = joins (decoder_on rl rh) (drop 11 rl) (drop 11 rh) (pos 5 ∷ pos 6 ∷ [])
 
 -- the second step over what the first gives
-abbrev inTwoSteps : Decoder → ℕ → List ℕ → List ℤ
-inTwoSteps d told octets =
+abbrev in_two_steps : Decoder → ℕ → List ℕ → List ℤ
+in_two_steps d told octets =
     let n = length octets in
-    let one = hearCall d told octets (replicate n (pos 0)) (replicate n (pos 0)) in
+    let one = hear_call d told octets (replicate n (pos 0)) (replicate n (pos 0)) in
     joins one.answer.next one.left.0 one.left.1 (replicate (2 * n) (pos 0))
 
 -- ---- the cases
@@ -240,12 +240,12 @@ arithmetic =
     gives these (1 ∷ 0 ∷ 0 ∷ 1 ∷ []))
     ∷ (these (overloads (neg 16385 ∷ neg 16384 ∷ pos 0 ∷ pos 16383 ∷ pos 16384 ∷ pos 32767 ∷ []) ∷ overloads [] ∷ [])
     gives these (3 ∷ 0 ∷ []))
-    ∷ (truths (sameSign (pos 0) (pos 1) ∷ sameSign (neg 1) (pos 0) ∷ sameSign (neg 1) (neg 2) ∷ []) gives these (1 ∷ 0 ∷ 1 ∷ []))
+    ∷ (truths (same_sign (pos 0) (pos 1) ∷ same_sign (neg 1) (pos 0) ∷ same_sign (neg 1) (neg 2) ∷ []) gives these (1 ∷ 0 ∷ 1 ∷ []))
     ∷ []
 
-pub arithmetic-hold : Hold arithmetic
+pub arithmetic_hold : Hold arithmetic
 unfolding arithmetic meaning
-arithmetic-hold = all_hold arithmetic refl
+arithmetic_hold = all_hold arithmetic refl
 
 -- three levels are 0 at scale 32, so size 0 is interval 4; the high band's one level; the differences of the loop and of each mode
 pub quantising : List Case
@@ -267,9 +267,9 @@ quantising =
     ∷ ((logscl 0b111100 (pos 18367) ∷ logsch 0b11 (pos 18367) ∷ []) gives (pos 18163 ∷ pos 18009 ∷ []))
     ∷ []
 
-pub quantising-hold : Hold quantising
+pub quantising_hold : Hold quantising
 unfolding quantising meaning
-quantising-hold = all_hold quantising refl
+quantising_hold = all_hold quantising refl
 
 -- FILTEZ stops at each sum from the oldest on, FILTEP at its sum; what the prediction, the partial and the reconstructed signal are made of
 pub predicting : List Case
@@ -280,9 +280,9 @@ predicting =
     ∷ (slide (pos 1 ∷ pos 2 ∷ pos 3 ∷ []) (pos 4) gives these (2 ∷ 3 ∷ 4 ∷ []))
     ∷ []
 
-pub predicting-hold : Hold predicting
+pub predicting_hold : Hold predicting
 unfolding predicting meaning
-predicting-hold = all_hold predicting refl
+predicting_hold = all_hold predicting refl
 
 -- signs and gains of UPZERO; the stops and limits of UPPOL2 and UPPOL1; the loop keeps the unlimited signal
 pub adapting : List Case
@@ -302,55 +302,55 @@ adapting =
     gives (pos 27222 ∷ pos 27222 ∷ []))
     ∷ ((uppol1 (still (pos 3072) (pos 0)) (pos 12288) (pos 0) ∷ uppol1 (still (neg 3072) (pos 0)) (pos 12288) (neg 1) ∷ [])
     gives (pos 3072 ∷ neg 3072 ∷ []))
-    ∷ (((nextPoles (still (pos 3160) (pos 12200)) (neg 1) (pos 0)).a1 ∷ (nextPoles (still (pos 3160) (pos 12200)) (pos 7) (pos 0)).a1 ∷ [])
+    ∷ (((next_poles (still (pos 3160) (pos 12200)) (neg 1) (pos 0)).a1 ∷ (next_poles (still (pos 3160) (pos 12200)) (pos 7) (pos 0)).a1 ∷ [])
     gives (pos 2955 ∷ pos 3227 ∷ []))
-    ∷ (((nextBand swung (pos 1000) swung.factors).poles.r1 ∷ []) gives (pos 32767 ∷ []))
-    ∷ (flat (nextBand busy (pos 7) low.factors) gives
+    ∷ (((next_band swung (pos 1000) swung.factors).poles.r1 ∷ []) gives (pos 32767 ∷ []))
+    ∷ (flat (next_band busy (pos 7) low.factors) gives
     ((neg 8032 ∷ pos 128 ∷ pos 128 ∷ pos 128 ∷ pos 128 ∷ pos 16448 ∷ []) ++ (pos 0 ∷ pos 0 ∷ pos 0 ∷ pos 0 ∷ pos 100 ∷ pos 7 ∷ [])
     ++ (pos 7968 ∷ neg 7745 ∷ pos 142 ∷ pos 200 ∷ pos 82 ∷ neg 3 ∷ pos 0 ∷ pos 32 ∷ [])))
     ∷ []
 
-pub adapting-hold : Hold adapting
+pub adapting_hold : Hold adapting
 unfolding adapting meaning
-adapting-hold = all_hold adapting refl
+adapting_hold = all_hold adapting refl
 
 -- both filters in full, beyond the range at both ends, and the newest and the oldest meet H0 and H23
 pub filters : List Case
 filters =
-    ((lowt (loudest h) ∷ lowt (loudest (turnedRound h)) ∷ []) gives (pos 25926 ∷ neg 25928 ∷ []))
-    ∷ ((hight (loudest (alternating h)) ∷ hight (loudest (turnedRound (alternating h))) ∷ []) gives (pos 25927 ∷ neg 25928 ∷ []))
-    ∷ ((lowt firstOf24 ∷ hight firstOf24 ∷ lowt lastOf24 ∷ hight lastOf24 ∷ []) gives (pos 5 ∷ neg 6 ∷ pos 5 ∷ pos 5 ∷ []))
-    ∷ ((accumc (loudest (odds h)) (loudest (turnedRound (odds h))) ∷ accumc (loudest (turnedRound (odds h))) (loudest (odds h)) ∷ [])
+    ((lowt (loudest h) ∷ lowt (loudest (turned_round h)) ∷ []) gives (pos 25926 ∷ neg 25928 ∷ []))
+    ∷ ((hight (loudest (alternating h)) ∷ hight (loudest (turned_round (alternating h))) ∷ []) gives (pos 25927 ∷ neg 25928 ∷ []))
+    ∷ ((lowt first_of24 ∷ hight first_of24 ∷ lowt last_of24 ∷ hight last_of24 ∷ []) gives (pos 5 ∷ neg 6 ∷ pos 5 ∷ pos 5 ∷ []))
+    ∷ ((accumc (loudest (odds h)) (loudest (turned_round (odds h))) ∷ accumc (loudest (turned_round (odds h))) (loudest (odds h)) ∷ [])
     gives (pos 51854 ∷ neg 51855 ∷ []))
-    ∷ ((accumd (loudest (evens h)) (loudest (evens h)) ∷ accumd (loudest (turnedRound (evens h))) (loudest (turnedRound (evens h))) ∷ [])
+    ∷ ((accumd (loudest (evens h)) (loudest (evens h)) ∷ accumd (loudest (turned_round (evens h))) (loudest (turned_round (evens h))) ∷ [])
     gives (pos 51853 ∷ neg 51856 ∷ []))
-    ∷ (outputs lastOf12 zeros ++ outputs zeros lastOf12 gives (pos 11 ∷ neg 44 ∷ neg 12 ∷ neg 44 ∷ []))
-    ∷ (outputs firstOf12 zeros ++ outputs zeros firstOf12 gives (neg 44 ∷ pos 11 ∷ pos 43 ∷ pos 11 ∷ []))
+    ∷ (outputs last_of12 zeros ++ outputs zeros last_of12 gives (pos 11 ∷ neg 44 ∷ neg 12 ∷ neg 44 ∷ []))
+    ∷ (outputs first_of12 zeros ++ outputs zeros first_of12 gives (neg 44 ∷ pos 11 ∷ pos 43 ∷ pos 11 ∷ []))
     ∷ []
 
-pub filters-hold : Hold filters
+pub filters_hold : Hold filters
 unfolding filters meaning
-filters-hold = all_hold filters refl
+filters_hold = all_hold filters refl
 
 -- the heard signals are limited; what a step keeps; the mode leaves the loop alone
 pub stepping : List Case
 stepping =
-    ((recons swung (pos 1000) ∷ rlOf 1 swung 0xE0 ∷ rhOf swung 0xE0 ∷ []) gives (pos 32767 ∷ pos 16383 ∷ pos 16383 ∷ []))
-    ∷ (summary (lowAfter (scaled (pos 5000) (pos 100)) 0b100000) ++ summary (highAfter (scaled (pos 5000) (pos 100)) 0b10)
+    ((recons swung (pos 1000) ∷ rl_of 1 swung 0xE0 ∷ rh_of swung 0xE0 ∷ []) gives (pos 32767 ∷ pos 16383 ∷ pos 16383 ∷ []))
+    ∷ (summary (low_after (scaled (pos 5000) (pos 100)) 0b100000) ++ summary (high_after (scaled (pos 5000) (pos 100)) 0b10)
     gives (pos 62 ∷ pos 8002 ∷ pos 476 ∷ pos 22 ∷ pos 5758 ∷ pos 52 ∷ []))
     -- the pair is sent as 0xDB, that is by the words 11 and 011011
-    ∷ (flat (coderStep resetCoder (pos 900) (neg 700)).low gives flat (lowAfter low 0b011011))
-    ∷ (flat (coderStep resetCoder (pos 900) (neg 700)).high gives flat (highAfter high 0b11))
-    ∷ ((coderStep resetCoder (pos 5) (pos 6)).past gives replicate 20 (pos 0) ++ (pos 5 ∷ pos 6 ∷ []))
-    ∷ ((decoderStep 1 resetDecoder 0x04).past.rl gives replicate 10 (pos 0) ++ (neg 25 ∷ []))
-    ∷ ((decoderStep 1 resetDecoder 0x04).past.rh gives replicate 10 (pos 0) ++ (neg 2 ∷ []))
-    ∷ (((decoderStep 1 resetDecoder 0x04).low.poles.r1 ∷ (decoderStep 3 resetDecoder 0x04).low.poles.r1 ∷ [])
+    ∷ (flat (coder_step reset_coder (pos 900) (neg 700)).low gives flat (low_after low 0b011011))
+    ∷ (flat (coder_step reset_coder (pos 900) (neg 700)).high gives flat (high_after high 0b11))
+    ∷ ((coder_step reset_coder (pos 5) (pos 6)).past gives replicate 20 (pos 0) ++ (pos 5 ∷ pos 6 ∷ []))
+    ∷ ((decoder_step 1 reset_decoder 0x04).past.rl gives replicate 10 (pos 0) ++ (neg 25 ∷ []))
+    ∷ ((decoder_step 1 reset_decoder 0x04).past.rh gives replicate 10 (pos 0) ++ (neg 2 ∷ []))
+    ∷ (((decoder_step 1 reset_decoder 0x04).low.poles.r1 ∷ (decoder_step 3 reset_decoder 0x04).low.poles.r1 ∷ [])
     gives (neg 20 ∷ neg 20 ∷ []))
     ∷ []
 
-pub stepping-hold : Hold stepping
+pub stepping_hold : Hold stepping
 unfolding stepping meaning
-stepping-hold = all_hold stepping refl
+stepping_hold = all_hold stepping refl
 
 -- a short run at either end, in each mode, as the second codec has it; and the record that a call of two pairs ends with
 pub running : List Case
@@ -364,50 +364,50 @@ running =
     gives (pos 1 ∷ pos 196 ∷ neg 20 ∷ neg 388 ∷ pos 42 ∷ pos 656 ∷ pos 67 ∷ neg 950 ∷ neg 1049 ∷ pos 151 ∷ pos 3725 ∷ pos 6856 ∷ []))
     ∷ (drop 12 (heard 3 twelve)
     gives (pos 1 ∷ pos 173 ∷ neg 18 ∷ neg 345 ∷ pos 38 ∷ pos 583 ∷ pos 53 ∷ neg 846 ∷ neg 901 ∷ pos 194 ∷ pos 3365 ∷ pos 6069 ∷ []))
-    ∷ ((codeCall resetCoder (take 4 forty) (0 ∷ 0 ∷ [])).answer.next.past gives replicate 18 (pos 0) ++ take 4 forty)
-    ∷ (flat (codeCall resetCoder (take 4 forty) (0 ∷ 0 ∷ [])).answer.next.low gives flat afterTwo.low)
-    ∷ ((decodeCall resetDecoder 1 (take 2 twelve) (replicate 4 (pos 0))).answer.next.past.rl gives heardTwo.past.rl)
+    ∷ ((code_call reset_coder (take 4 forty) (0 ∷ 0 ∷ [])).answer.next.past gives replicate 18 (pos 0) ++ take 4 forty)
+    ∷ (flat (code_call reset_coder (take 4 forty) (0 ∷ 0 ∷ [])).answer.next.low gives flat after_two.low)
+    ∷ ((decode_call reset_decoder 1 (take 2 twelve) (replicate 4 (pos 0))).answer.next.past.rl gives heard_two.past.rl)
     ∷ []
 
-pub running-hold : Hold running
+pub running_hold : Hold running
 unfolding running meaning
-running-hold = all_hold running refl
+running_hold = all_hold running refl
 
 -- reset is all zero but for the scale factors 32 and 8
 pub resetting : List Case
 resetting =
-    (flat resetCoder.low ++ flat resetCoder.high ++ resetCoder.past
+    (flat reset_coder.low ++ flat reset_coder.high ++ reset_coder.past
     gives replicate 19 (pos 0) ++ (pos 32 ∷ replicate 19 (pos 0)) ++ (pos 8 ∷ replicate 22 (pos 0)))
-    ∷ (flat resetDecoder.low ++ flat resetDecoder.high ++ resetDecoder.past.rl ++ resetDecoder.past.rh
+    ∷ (flat reset_decoder.low ++ flat reset_decoder.high ++ reset_decoder.past.rl ++ reset_decoder.past.rh
     gives replicate 19 (pos 0) ++ (pos 32 ∷ replicate 19 (pos 0)) ++ (pos 8 ∷ replicate 22 (pos 0)))
     ∷ []
 
-pub resetting-hold : Hold resetting
+pub resetting_hold : Hold resetting
 unfolding resetting meaning
-resetting-hold = all_hold resetting refl
+resetting_hold = all_hold resetting refl
 
 -- the bounds of a record: the second pole coefficient, the first, the factors, the past; in both bands, at both ends
 pub bounds : List Case
 bounds =
-    (coderNumbers (map (λ (s : Band). coder s high (pos 0))
-    (lowWith (pos 3072) (pos 12288) ∷ lowWith (pos 0) (pos 12289) ∷ lowWith (pos 27648) (neg 12288) ∷ lowWith (pos 0) (neg 12289) ∷ []))
+    (coder_numbers (map (λ (s : Band). coder s high (pos 0))
+    (low_with (pos 3072) (pos 12288) ∷ low_with (pos 0) (pos 12289) ∷ low_with (pos 27648) (neg 12288) ∷ low_with (pos 0) (neg 12289) ∷ []))
     gives these (0 ∷ 2 ∷ 0 ∷ 2 ∷ []))
-    ∷ (coderNumbers (map (λ (s : Band). coder s high (pos 0))
-    (lowWith (pos 3073) (pos 12288) ∷ lowWith (neg 3072) (pos 12288) ∷ lowWith (neg 3073) (pos 12288) ∷ []))
+    ∷ (coder_numbers (map (λ (s : Band). coder s high (pos 0))
+    (low_with (pos 3073) (pos 12288) ∷ low_with (neg 3072) (pos 12288) ∷ low_with (neg 3073) (pos 12288) ∷ []))
     gives these (2 ∷ 0 ∷ 2 ∷ []))
-    ∷ (coderNumbers (map (λ (s : Band). coder s high (pos 0))
+    ∷ (coder_numbers (map (λ (s : Band). coder s high (pos 0))
     (scaled (pos 18432) (pos 16384) ∷ scaled (pos 18433) (pos 16384) ∷ scaled (neg 1) (pos 32) ∷ scaled (pos 0) (pos 36) ∷ []))
     gives these (0 ∷ 2 ∷ 2 ∷ 2 ∷ []))
-    ∷ (coderNumbers (map (λ (s : Band). coder low s (pos 0))
-    (scaled (pos 22528) (pos 16384) ∷ scaled (pos 22529) (pos 16384) ∷ highWith (pos 0) (pos 12289) ∷ highWith (pos 15361) (pos 0) ∷ []))
+    ∷ (coder_numbers (map (λ (s : Band). coder low s (pos 0))
+    (scaled (pos 22528) (pos 16384) ∷ scaled (pos 22529) (pos 16384) ∷ high_with (pos 0) (pos 12289) ∷ high_with (pos 15361) (pos 0) ∷ []))
     gives these (0 ∷ 2 ∷ 2 ∷ 2 ∷ []))
-    ∷ (coderNumbers (coder low high (neg 16384) ∷ coder low high (neg 16385) ∷ coder low high (pos 16384) ∷ [])
+    ∷ (coder_numbers (coder low high (neg 16384) ∷ coder low high (neg 16385) ∷ coder low high (pos 16384) ∷ [])
     gives these (0 ∷ 2 ∷ 2 ∷ []))
-    ∷ (decoderNumbers (decoder high high (pos 0) (pos 0) ∷ decoder low low (pos 0) (pos 0) ∷ []) gives these (2 ∷ 2 ∷ []))
-    ∷ (decoderNumbers
-    (decoder (lowWith (pos 0) (pos 12289)) high (pos 0) (pos 0) ∷ decoder low (highWith (pos 0) (pos 12289)) (pos 0) (pos 0) ∷ [])
+    ∷ (decoder_numbers (decoder high high (pos 0) (pos 0) ∷ decoder low low (pos 0) (pos 0) ∷ []) gives these (2 ∷ 2 ∷ []))
+    ∷ (decoder_numbers
+    (decoder (low_with (pos 0) (pos 12289)) high (pos 0) (pos 0) ∷ decoder low (high_with (pos 0) (pos 12289)) (pos 0) (pos 0) ∷ [])
     gives these (2 ∷ 2 ∷ []))
-    ∷ (decoderNumbers
+    ∷ (decoder_numbers
     (decoder low high (pos 16383) (neg 16384) ∷ decoder low high (pos 16384) (pos 0) ∷ decoder low high (pos 0) (neg 16385) ∷ [])
     gives these (0 ∷ 2 ∷ 2 ∷ []))
     ∷ []
@@ -420,22 +420,22 @@ bounds-hold = all_hold bounds refl
 -- the record comes back; an accepted call's index is 0
 pub refusals : List Case
 refusals =
-    (codes (coder (lowWith (pos 0) (pos 12289)) high (pos 0)) (pos 16384 ∷ []) (7 ∷ []) gives these (3 ∷ 0 ∷ 0 ∷ 7 ∷ []))
-    ∷ (codes (coder (lowWith (pos 0) (pos 12289)) high (pos 0)) (pos 16384 ∷ pos 0 ∷ []) (7 ∷ []) gives these (2 ∷ 0 ∷ 0 ∷ 7 ∷ []))
-    ∷ (codes resetCoder (pos 0 ∷ neg 16385 ∷ []) (7 ∷ []) gives these (4 ∷ 1 ∷ 0 ∷ 7 ∷ []))
-    ∷ (codes resetCoder (pos 0 ∷ pos 0 ∷ []) (7 ∷ []) gives these (0 ∷ 0 ∷ 0 ∷ 0xFA ∷ []))
-    ∷ (decodes (decoder (resetBand (pos 0)) high (pos 0) (pos 0)) 4 [] (pos 5 ∷ []) gives these (1 ∷ 0 ∷ 0 ∷ 5 ∷ []))
-    ∷ (decodes (decoder (resetBand (pos 0)) high (pos 0) (pos 0)) 3 [] (pos 5 ∷ []) gives these (3 ∷ 0 ∷ 0 ∷ 5 ∷ []))
-    ∷ (decodes (decoder (resetBand (pos 0)) high (pos 0) (pos 0)) 3 (0xFA ∷ []) (pos 5 ∷ pos 6 ∷ []) gives these (2 ∷ 0 ∷ 0 ∷ 5 ∷ 6 ∷ []))
-    ∷ (decodes resetDecoder 1 (0xFA ∷ []) (pos 5 ∷ pos 6 ∷ []) gives (pos 0 ∷ pos 0 ∷ pos 0 ∷ pos 0 ∷ neg 1 ∷ []))
-    ∷ (flat (codeCall (coder swung high (pos 0)) (pos 16384 ∷ pos 0 ∷ []) (7 ∷ [])).answer.next.low gives flat swung)
-    ∷ (flat (decodeCall (decoder swung high (pos 0) (pos 0)) 4 [] []).answer.next.low gives flat swung)
+    (codes (coder (low_with (pos 0) (pos 12289)) high (pos 0)) (pos 16384 ∷ []) (7 ∷ []) gives these (3 ∷ 0 ∷ 0 ∷ 7 ∷ []))
+    ∷ (codes (coder (low_with (pos 0) (pos 12289)) high (pos 0)) (pos 16384 ∷ pos 0 ∷ []) (7 ∷ []) gives these (2 ∷ 0 ∷ 0 ∷ 7 ∷ []))
+    ∷ (codes reset_coder (pos 0 ∷ neg 16385 ∷ []) (7 ∷ []) gives these (4 ∷ 1 ∷ 0 ∷ 7 ∷ []))
+    ∷ (codes reset_coder (pos 0 ∷ pos 0 ∷ []) (7 ∷ []) gives these (0 ∷ 0 ∷ 0 ∷ 0xFA ∷ []))
+    ∷ (decodes (decoder (reset_band (pos 0)) high (pos 0) (pos 0)) 4 [] (pos 5 ∷ []) gives these (1 ∷ 0 ∷ 0 ∷ 5 ∷ []))
+    ∷ (decodes (decoder (reset_band (pos 0)) high (pos 0) (pos 0)) 3 [] (pos 5 ∷ []) gives these (3 ∷ 0 ∷ 0 ∷ 5 ∷ []))
+    ∷ (decodes (decoder (reset_band (pos 0)) high (pos 0) (pos 0)) 3 (0xFA ∷ []) (pos 5 ∷ pos 6 ∷ []) gives these (2 ∷ 0 ∷ 0 ∷ 5 ∷ 6 ∷ []))
+    ∷ (decodes reset_decoder 1 (0xFA ∷ []) (pos 5 ∷ pos 6 ∷ []) gives (pos 0 ∷ pos 0 ∷ pos 0 ∷ pos 0 ∷ neg 1 ∷ []))
+    ∷ (flat (code_call (coder swung high (pos 0)) (pos 16384 ∷ pos 0 ∷ []) (7 ∷ [])).answer.next.low gives flat swung)
+    ∷ (flat (decode_call (decoder swung high (pos 0) (pos 0)) 4 [] []).answer.next.low gives flat swung)
     ∷ (truths (misfit 16000 8000 ∷ misfit 16002 8001 ∷ misfit 15999 8000 ∷ misfit 16001 8000 ∷ []) gives these (0 ∷ 1 ∷ 1 ∷ 1 ∷ []))
     ∷ []
 
-pub refusals-hold : Hold refusals
+pub refusals_hold : Hold refusals
 unfolding refusals meaning
-refusals-hold = all_hold refusals refl
+refusals_hold = all_hold refusals refl
 
 -- hearing refuses 1, 3, 2 and leaves what was lent; its signals, the low before the high, limited at both ends; it moves both bands, and
 -- leaves the past pairs
@@ -445,24 +445,24 @@ hearing =
     ∷ (hears broken 3 [] (pos 5 ∷ []) [] gives these (3 ∷ 0 ∷ 0 ∷ 5 ∷ []))
     ∷ (hears broken 3 [] [] (pos 6 ∷ []) gives these (3 ∷ 0 ∷ 0 ∷ 6 ∷ []))
     ∷ (hears broken 3 (0xFA ∷ []) (pos 5 ∷ []) (pos 6 ∷ []) gives these (2 ∷ 0 ∷ 0 ∷ 5 ∷ 6 ∷ []))
-    ∷ (these ((hearCall resetDecoder 1 (replicate 8001 0) (replicate 8001 (pos 0)) (replicate 8001 (pos 0))).answer.number ∷ [])
+    ∷ (these ((hear_call reset_decoder 1 (replicate 8001 0) (replicate 8001 (pos 0)) (replicate 8001 (pos 0))).answer.number ∷ [])
     gives these (3 ∷ []))
-    ∷ (hearsTwelve 0 gives (pos 0 ∷ pos 0 ∷ pos 0 ∷ low1 ++ highs))
-    ∷ (hearsTwelve 1 gives (pos 0 ∷ pos 0 ∷ pos 0 ∷ low1 ++ highs))
-    ∷ (hearsTwelve 2 gives (pos 0 ∷ pos 0 ∷ pos 0 ∷ low2 ++ highs))
-    ∷ (hearsTwelve 3 gives (pos 0 ∷ pos 0 ∷ pos 0 ∷ low3 ++ highs))
+    ∷ (hears_twelve 0 gives (pos 0 ∷ pos 0 ∷ pos 0 ∷ low1 ++ highs))
+    ∷ (hears_twelve 1 gives (pos 0 ∷ pos 0 ∷ pos 0 ∷ low1 ++ highs))
+    ∷ (hears_twelve 2 gives (pos 0 ∷ pos 0 ∷ pos 0 ∷ low2 ++ highs))
+    ∷ (hears_twelve 3 gives (pos 0 ∷ pos 0 ∷ pos 0 ∷ low3 ++ highs))
     ∷ (hears full 1 (0x20 ∷ []) (pos 5 ∷ []) (pos 6 ∷ []) gives (pos 0 ∷ pos 0 ∷ pos 2 ∷ pos 16383 ∷ neg 16384 ∷ []))
     ∷ (hears (decoder (down (pos 32)) (up (pos 8)) (pos 0) (pos 0)) 1 (0x84 ∷ []) (pos 5 ∷ []) (pos 6 ∷ [])
     gives (pos 0 ∷ pos 0 ∷ pos 2 ∷ neg 16384 ∷ pos 16383 ∷ []))
-    ∷ (flat twoHeard.low ++ flat twoHeard.high
-    gives flat (decoderStep 1 (decoderStep 1 full 0x04) 0x20).low ++ flat (decoderStep 1 (decoderStep 1 full 0x04) 0x20).high)
-    ∷ (twoHeard.past.rl ++ twoHeard.past.rh gives full.past.rl ++ full.past.rh)
-    ∷ (flat (hearCall full 4 [] [] []).answer.next.low gives flat full.low)
+    ∷ (flat two_heard.low ++ flat two_heard.high
+    gives flat (decoder_step 1 (decoder_step 1 full 0x04) 0x20).low ++ flat (decoder_step 1 (decoder_step 1 full 0x04) 0x20).high)
+    ∷ (two_heard.past.rl ++ two_heard.past.rh gives full.past.rl ++ full.past.rh)
+    ∷ (flat (hear_call full 4 [] [] []).answer.next.low gives flat full.low)
     ∷ []
 
-pub hearing-hold : Hold hearing
+pub hearing_hold : Hold hearing
 unfolding hearing meaning
-hearing-hold = all_hold hearing refl
+hearing_hold = all_hold hearing refl
 
 -- joining refuses 3, 2, 4 with the first bad pair, and leaves what was lent; its samples; it moves the past pairs, and leaves both bands;
 -- what was heard and is joined is what is decoded
@@ -472,96 +472,96 @@ joining =
     ∷ (joins broken (pos 16384 ∷ []) [] (pos 5 ∷ pos 6 ∷ []) gives these (3 ∷ 0 ∷ 0 ∷ 5 ∷ 6 ∷ []))
     ∷ (joins broken (pos 16384 ∷ []) (pos 0 ∷ []) (pos 5 ∷ pos 6 ∷ []) gives these (2 ∷ 0 ∷ 0 ∷ 5 ∷ 6 ∷ []))
     ∷ (joins full (pos 0 ∷ pos 0 ∷ []) (pos 0 ∷ neg 16385 ∷ []) (replicate 4 (pos 5)) gives these (4 ∷ 1 ∷ 0 ∷ 5 ∷ 5 ∷ 5 ∷ 5 ∷ []))
-    ∷ (these ((joinCall resetDecoder (replicate 8001 (pos 0)) (replicate 8001 (pos 0)) (replicate 16002 (pos 0))).answer.number ∷ [])
+    ∷ (these ((join_call reset_decoder (replicate 8001 (pos 0)) (replicate 8001 (pos 0)) (replicate 16002 (pos 0))).answer.number ∷ [])
     gives these (3 ∷ []))
-    ∷ (joins resetDecoder [] [] [] gives these (0 ∷ 0 ∷ 0 ∷ []))
-    ∷ (joins resetDecoder (pos 16383 ∷ neg 16384 ∷ pos 5000 ∷ neg 7 ∷ []) (neg 16384 ∷ pos 16383 ∷ pos 3000 ∷ pos 9 ∷ [])
+    ∷ (joins reset_decoder [] [] [] gives these (0 ∷ 0 ∷ 0 ∷ []))
+    ∷ (joins reset_decoder (pos 16383 ∷ neg 16384 ∷ pos 5000 ∷ neg 7 ∷ []) (neg 16384 ∷ pos 16383 ∷ pos 3000 ∷ pos 9 ∷ [])
     (replicate 8 (pos 5))
     gives (pos 0 ∷ pos 0 ∷ pos 0 ∷ pos 23 ∷ pos 0 ∷ neg 112 ∷ neg 1 ∷ pos 185 ∷ neg 22 ∷ pos 154 ∷ pos 103 ∷ []))
-    ∷ (flat oneJoined.low ++ flat oneJoined.high gives flat full.low ++ flat full.high)
-    ∷ (oneJoined.past.rl ++ oneJoined.past.rh gives replicate 10 (pos 0) ++ (pos 5 ∷ replicate 9 (pos 0)) ++ (pos 4 ∷ pos 6 ∷ []))
-    ∷ (flat (joinCall full [] [] (pos 5 ∷ [])).answer.next.low gives flat full.low)
-    ∷ (inTwoSteps resetDecoder 3 (0xFA ∷ 0x04 ∷ []) gives decodes resetDecoder 3 (0xFA ∷ 0x04 ∷ []) (replicate 4 (pos 0)))
-    ∷ (inTwoSteps full 2 (0x21 ∷ []) gives decodes full 2 (0x21 ∷ []) (replicate 2 (pos 0)))
+    ∷ (flat one_joined.low ++ flat one_joined.high gives flat full.low ++ flat full.high)
+    ∷ (one_joined.past.rl ++ one_joined.past.rh gives replicate 10 (pos 0) ++ (pos 5 ∷ replicate 9 (pos 0)) ++ (pos 4 ∷ pos 6 ∷ []))
+    ∷ (flat (join_call full [] [] (pos 5 ∷ [])).answer.next.low gives flat full.low)
+    ∷ (in_two_steps reset_decoder 3 (0xFA ∷ 0x04 ∷ []) gives decodes reset_decoder 3 (0xFA ∷ 0x04 ∷ []) (replicate 4 (pos 0)))
+    ∷ (in_two_steps full 2 (0x21 ∷ []) gives decodes full 2 (0x21 ∷ []) (replicate 2 (pos 0)))
     ∷ []
 
-pub joining-hold : Hold joining
+pub joining_hold : Hold joining
 unfolding joining meaning
-joining-hold = all_hold joining refl
+joining_hold = all_hold joining refl
 
 -- XL and XH are coded limited, and counted where that changed them: each alone, both, and neither where XL reaches 16383 exactly
-pub lampOfCoding : List Case
-lampOfCoding =
-    (these (ilOf (coderOn (up (pos 16384)) high (take 22 (loudest h))) (neg 16384) (pos 16383)
-    ∷ ihOf (coderOn low (nearly (pos 16384) (pos 15048) (pos 16384)) (take 22 (loudest (alternating h)))) (pos 16383) (pos 16383) ∷ [])
+pub lamp_of_coding : List Case
+lamp_of_coding =
+    (these (il_of (coder_on (up (pos 16384)) high (take 22 (loudest h))) (neg 16384) (pos 16383)
+    ∷ ih_of (coder_on low (nearly (pos 16384) (pos 15048) (pos 16384)) (take 22 (loudest (alternating h)))) (pos 16383) (pos 16383) ∷ [])
     gives these (4 ∷ 3 ∷ []))
-    ∷ (lampCoding (loudest h) gives these (0 ∷ 0 ∷ 1 ∷ []))
-    ∷ (lampCoding (loudest (turnedRound (alternating h))) gives these (0 ∷ 0 ∷ 1 ∷ []))
-    ∷ (lampCoding (replicate 24 (pos 16383)) gives these (0 ∷ 0 ∷ 0 ∷ []))
-    ∷ (lampCoding (loudest h ++ (pos 0 ∷ pos 0 ∷ [])) gives these (0 ∷ 0 ∷ 1 ∷ []))
+    ∷ (lamp_coding (loudest h) gives these (0 ∷ 0 ∷ 1 ∷ []))
+    ∷ (lamp_coding (loudest (turned_round (alternating h))) gives these (0 ∷ 0 ∷ 1 ∷ []))
+    ∷ (lamp_coding (replicate 24 (pos 16383)) gives these (0 ∷ 0 ∷ 0 ∷ []))
+    ∷ (lamp_coding (loudest h ++ (pos 0 ∷ pos 0 ∷ [])) gives these (0 ∷ 0 ∷ 1 ∷ []))
     ∷ []
 
-pub lampOfCoding-hold : Hold lampOfCoding
-unfolding lampOfCoding meaning
-lampOfCoding-hold = all_hold lampOfCoding refl
+pub lamp_of_coding_hold : Hold lamp_of_coding
+unfolding lamp_of_coding meaning
+lamp_of_coding_hold = all_hold lamp_of_coding refl
 
 -- and of any run, what is counted are XL and XH of the windows that are coded
-pub counted-are-coded : (c : Coder) (x y : ℤ) (rest : List ℤ)
-    → splitInFull c.past (x ∷ y ∷ rest) ≡ lowt (window c x y) ∷ hight (window c x y) ∷ splitInFull (coderStep c x y).past rest
-unfolding splitInFull window coderStep
-counted-are-coded c x y rest = refl
+pub counted_are_coded : (c : Coder) (x y : ℤ) (rest : List ℤ)
+    → split_in_full c.past (x ∷ y ∷ rest) ≡ lowt (window c x y) ∷ hight (window c x y) ∷ split_in_full (coder_step c x y).past rest
+unfolding split_in_full window coder_step
+counted_are_coded c x y rest = refl
 
 -- YL as the mode has it is counted, and not what the loop keeps, which is in range here; where it reaches -16384 exactly it is not
 -- counted; nor is what an earlier call counted
-pub lampOfHearing : List Case
-lampOfHearing =
-    (lampHearing (pos 15048) 1 gives (pos 0 ∷ pos 0 ∷ pos 1 ∷ neg 16384 ∷ neg 2 ∷ []))
-    ∷ (lampHearing (pos 15048) 3 gives (pos 0 ∷ pos 0 ∷ pos 0 ∷ neg 16382 ∷ neg 2 ∷ []))
-    ∷ (lampHearing (pos 15050) 2 gives (pos 0 ∷ pos 0 ∷ pos 0 ∷ neg 16384 ∷ neg 2 ∷ []))
+pub lamp_of_hearing : List Case
+lamp_of_hearing =
+    (lamp_hearing (pos 15048) 1 gives (pos 0 ∷ pos 0 ∷ pos 1 ∷ neg 16384 ∷ neg 2 ∷ []))
+    ∷ (lamp_hearing (pos 15048) 3 gives (pos 0 ∷ pos 0 ∷ pos 0 ∷ neg 16382 ∷ neg 2 ∷ []))
+    ∷ (lamp_hearing (pos 15050) 2 gives (pos 0 ∷ pos 0 ∷ pos 0 ∷ neg 16384 ∷ neg 2 ∷ []))
     ∷ (hears (decoder low (down (pos 8)) (pos 0) (pos 0)) 1 (0x04 ∷ []) (pos 5 ∷ []) (pos 6 ∷ [])
     gives (pos 0 ∷ pos 0 ∷ pos 1 ∷ neg 25 ∷ neg 16384 ∷ []))
-    ∷ (hears (hearCall full 1 (0x20 ∷ []) (pos 0 ∷ []) (pos 0 ∷ [])).answer.next 1 [] [] [] gives these (0 ∷ 0 ∷ 0 ∷ []))
+    ∷ (hears (hear_call full 1 (0x20 ∷ []) (pos 0 ∷ []) (pos 0 ∷ [])).answer.next 1 [] [] [] gives these (0 ∷ 0 ∷ 0 ∷ []))
     ∷ []
 
-pub lampOfHearing-hold : Hold lampOfHearing
-unfolding lampOfHearing meaning
-lampOfHearing-hold = all_hold lampOfHearing refl
+pub lamp_of_hearing_hold : Hold lamp_of_hearing
+unfolding lamp_of_hearing meaning
+lamp_of_hearing_hold = all_hold lamp_of_hearing refl
 
 -- each sample alone is limited and counted, at either end; 16383 reached exactly is not counted, and one more is; decoding counts
 -- as its second step does, and not what was limited in the first
-pub lampOfJoining : List Case
-lampOfJoining =
-    (lampJoining (loudest (odds h)) (loudest (turnedRound (odds h))) gives (pos 0 ∷ pos 0 ∷ pos 1 ∷ pos 16383 ∷ neg 1 ∷ []))
-    ∷ (lampJoining (loudest (turnedRound (evens h))) (loudest (turnedRound (evens h)))
+pub lamp_of_joining : List Case
+lamp_of_joining =
+    (lamp_joining (loudest (odds h)) (loudest (turned_round (odds h))) gives (pos 0 ∷ pos 0 ∷ pos 1 ∷ pos 16383 ∷ neg 1 ∷ []))
+    ∷ (lamp_joining (loudest (turned_round (evens h))) (loudest (turned_round (evens h)))
     gives (pos 0 ∷ pos 0 ∷ pos 1 ∷ pos 0 ∷ neg 16384 ∷ []))
-    ∷ (lampJoining (sixth (pos 16383)) (sixth (neg 930)) gives (pos 0 ∷ pos 0 ∷ pos 0 ∷ pos 16383 ∷ pos 3587 ∷ []))
-    ∷ (lampJoining (sixth (pos 16383)) (sixth (neg 931)) gives (pos 0 ∷ pos 0 ∷ pos 1 ∷ pos 16383 ∷ pos 3587 ∷ []))
-    ∷ (decodes (decoderOn (sixth (pos 16383)) (sixth (neg 931))) 1 (0x04 ∷ []) (pos 0 ∷ pos 0 ∷ [])
+    ∷ (lamp_joining (sixth (pos 16383)) (sixth (neg 930)) gives (pos 0 ∷ pos 0 ∷ pos 0 ∷ pos 16383 ∷ pos 3587 ∷ []))
+    ∷ (lamp_joining (sixth (pos 16383)) (sixth (neg 931)) gives (pos 0 ∷ pos 0 ∷ pos 1 ∷ pos 16383 ∷ pos 3587 ∷ []))
+    ∷ (decodes (decoder_on (sixth (pos 16383)) (sixth (neg 931))) 1 (0x04 ∷ []) (pos 0 ∷ pos 0 ∷ [])
     gives (pos 0 ∷ pos 0 ∷ pos 1 ∷ pos 16383 ∷ pos 3587 ∷ []))
     ∷ (take 3 (decodes full 1 (0x20 ∷ []) (pos 0 ∷ pos 0 ∷ [])) gives these (0 ∷ 0 ∷ 0 ∷ []))
     ∷ []
 
-pub lampOfJoining-hold : Hold lampOfJoining
-unfolding lampOfJoining meaning
-lampOfJoining-hold = all_hold lampOfJoining refl
+pub lamp_of_joining_hold : Hold lamp_of_joining
+unfolding lamp_of_joining meaning
+lamp_of_joining_hold = all_hold lamp_of_joining refl
 
 -- data calls 1, 5, 3; data must fill the octets; and taking out what sums 9 and 10 put in
 pub cueing : List Case
 cueing =
-    (moves (putCall 4 (7 ∷ []) []) gives these (1 ∷ 0 ∷ 7 ∷ []))
-    ∷ (moves (putCall 1 (7 ∷ []) []) gives these (5 ∷ 0 ∷ 7 ∷ []))
-    ∷ (moves (takeCall 0 (7 ∷ []) (9 ∷ [])) gives these (5 ∷ 0 ∷ 9 ∷ []))
-    ∷ (moves (takeCall 2 (replicate 7 0xFA) (9 ∷ [])) gives these (3 ∷ 0 ∷ 9 ∷ []))
-    ∷ (moves (putCall 2 (replicate 16 0xFA) (0x81 ∷ [])) gives these (3 ∷ 0 ∷ replicate 16 0xFA))
-    ∷ (moves (putCall 3 [] []) gives these (0 ∷ 0 ∷ []))
-    ∷ (moves (takeCall 3 (0xFA ∷ 0xFB ∷ 0xF8 ∷ 0xF9 ∷ []) (9 ∷ [])) gives these (0 ∷ 0 ∷ 0xB1 ∷ []))
-    ∷ (moves (takeCall 2 (0xFB ∷ replicate 6 0xFA ++ (0xFB ∷ [])) (9 ∷ [])) gives these (0 ∷ 0 ∷ 0x81 ∷ []))
-    ∷ (moves (takeCall 2 (replicate 4 0xFA ++ replicate 5 0xFB ++ replicate 6 0xFA ++ (0xFB ∷ [])) (9 ∷ 9 ∷ []))
+    (moves (put_call 4 (7 ∷ []) []) gives these (1 ∷ 0 ∷ 7 ∷ []))
+    ∷ (moves (put_call 1 (7 ∷ []) []) gives these (5 ∷ 0 ∷ 7 ∷ []))
+    ∷ (moves (take_call 0 (7 ∷ []) (9 ∷ [])) gives these (5 ∷ 0 ∷ 9 ∷ []))
+    ∷ (moves (take_call 2 (replicate 7 0xFA) (9 ∷ [])) gives these (3 ∷ 0 ∷ 9 ∷ []))
+    ∷ (moves (put_call 2 (replicate 16 0xFA) (0x81 ∷ [])) gives these (3 ∷ 0 ∷ replicate 16 0xFA))
+    ∷ (moves (put_call 3 [] []) gives these (0 ∷ 0 ∷ []))
+    ∷ (moves (take_call 3 (0xFA ∷ 0xFB ∷ 0xF8 ∷ 0xF9 ∷ []) (9 ∷ [])) gives these (0 ∷ 0 ∷ 0xB1 ∷ []))
+    ∷ (moves (take_call 2 (0xFB ∷ replicate 6 0xFA ++ (0xFB ∷ [])) (9 ∷ [])) gives these (0 ∷ 0 ∷ 0x81 ∷ []))
+    ∷ (moves (take_call 2 (replicate 4 0xFA ++ replicate 5 0xFB ++ replicate 6 0xFA ++ (0xFB ∷ [])) (9 ∷ 9 ∷ []))
     gives these (0 ∷ 0 ∷ 0x0F ∷ 0x81 ∷ []))
     ∷ (truths (unfilled 2 8000 1000 ∷ unfilled 2 8008 1001 ∷ unfilled 3 8000 2000 ∷ unfilled 3 8004 2001 ∷ [])
     gives these (0 ∷ 1 ∷ 0 ∷ 1 ∷ []))
     ∷ []
 
-pub cueing-hold : Hold cueing
+pub cueing_hold : Hold cueing
 unfolding cueing meaning
-cueing-hold = all_hold cueing refl
+cueing_hold = all_hold cueing refl

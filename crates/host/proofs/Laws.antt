@@ -8,18 +8,18 @@ use native.Mathlib.Omega.{arith}
 use borrow.Author.Tests.{eq-eqb, ne_eqb}
 use lib.Dec.{ltb, eqb}
 use lib.ListN.{length}
-use Rattle.laws.specs.Order.{no, by-test}
+use Rattle.laws.specs.Order.{no, by_test}
 use Rattle.laws.specs.Outcome.{Outcome, Does}
-use Rattle.g722.specs.Records.{goodDecoder}
-use Rattle.g722.specs.Coding.{misfit, notCoded, codeCall}
+use Rattle.g722.specs.Records.{good_decoder}
+use Rattle.g722.specs.Coding.{misfit, not_coded, code_call}
 use Rattle.g722.specs.Decoding.{decoded}
 use Rattle.g722.specs.declared.Decoder.{Decoder}
-use Rattle.big_endian.specs.Bytes.{pcmSamples}
-use Rattle.pcm.specs.Chunks.{encodeChunk, notStored, asBytes, decodeChunk}
-use Rattle.state.specs.Layout.{holds, coderIn, decoderIn, writeCall}
-use Rattle.state.specs.Reset.{unheld-coder-broken, unheld-decoder-broken, held-length}
+use Rattle.big_endian.specs.Bytes.{pcm_samples}
+use Rattle.pcm.specs.Chunks.{encode_chunk, not_stored, as_bytes, decode_chunk}
+use Rattle.state.specs.Layout.{holds, coder_in, decoder_in, write_call}
+use Rattle.state.specs.Reset.{unheld_coder_broken, unheld_decoder_broken, held_length}
 use Rattle.host.specs.Answer.{packed}
-use Rattle.host.specs.Calls.{stateAfter}
+use Rattle.host.specs.Calls.{state_after}
 
 -- ---- a call on a record, between reading and writing its state: one law for both records, whatever else is lent
 
@@ -31,7 +31,7 @@ module _ {A L : Type 0} (number index count : A → ℕ) (bytes : A → List ℕ
   hosted =
       record {
         answer = said x.answer;
-        left = (stateAfter (number x.answer) (bytes x.answer) state, x.left);
+        left = (state_after (number x.answer) (bytes x.answer) state, x.left);
       }
 
   module _ {r : A} {left : L} {word : ℕ} (did : Does x r left) (told : word ≡ said r) where
@@ -39,9 +39,9 @@ module _ {A L : Type 0} (number index count : A → ℕ) (bytes : A → List ℕ
     spoken = told ∙ ap said did.answer
 
     -- an accepted call has its state written
-    pub moves : {wrote : Bool} {next : List ℕ} → number r ≡ 0 → length state ≡ 125 → Does (writeCall (bytes r) state) wrote next
+    pub moves : {wrote : Bool} {next : List ℕ} → number r ≡ 0 → length state ≡ 125 → Does (write_call (bytes r) state) wrote next
         → Does hosted word (next, left)
-    unfolding writeCall
+    unfolding write_call
     moves {next = next} z l w =
         let wrote : next ≡ bytes r = w.left ∙ simp (eq-eqb _ _ l) in
         let n : number x.answer ≡ 0 = sym (ap number did.answer) ∙ z in
@@ -58,34 +58,34 @@ module _ {A L : Type 0} (number index count : A → ℕ) (bytes : A → List ℕ
 
 -- ---- an accepted call was handed the bytes of a state
 
-pub coder-held : (s b o : List ℕ) → (encodeChunk (coderIn s) b o).answer.number ≡ 0 → length s ≡ 125
-unfolding encodeChunk codeCall notCoded
-coder-held s b o z =
-    by-test (holds 1 s) (held-length 1 s) (λ e. absurd (
-    let g = unheld-coder-broken s e in
-    by-test (eqb (length b) (4 * length o))
-    (λ f. by-test (misfit (length (pcmSamples b)) (length o))
+pub coder_held : (s b o : List ℕ) → (encode_chunk (coder_in s) b o).answer.number ≡ 0 → length s ≡ 125
+unfolding encode_chunk code_call not_coded
+coder_held s b o z =
+    by_test (holds 1 s) (held_length 1 s) (λ e. absurd (
+    let g = unheld_coder_broken s e in
+    by_test (eqb (length b) (4 * length o))
+    (λ f. by_test (misfit (length (pcm_samples b)) (length o))
     (λ h. let k : ◌≡◌ {A = ℕ} 3 0 = rw (f, h) at z in omega arith)
     (λ h. let k : ◌≡◌ {A = ℕ} 2 0 = rw (f, h, g) at z in omega arith))
     (λ f. let k : ◌≡◌ {A = ℕ} 3 0 = rw f at z in omega arith)))
 
-pub good-held : (s : List ℕ) → goodDecoder (decoderIn s) ≡ true → length s ≡ 125
-good-held s g = by-test (holds 2 s) (held-length 2 s) (λ e. no (sym g ∙ unheld-decoder-broken s e))
+pub good_held : (s : List ℕ) → good_decoder (decoder_in s) ≡ true → length s ≡ 125
+good_held s g = by_test (holds 2 s) (held_length 2 s) (λ e. no (sym g ∙ unheld_decoder_broken s e))
 
-pub decoder-held : (s : List ℕ) (told : ℕ) (o b : List ℕ) → (decodeChunk (decoderIn s) told o b).answer.number ≡ 0 → length s ≡ 125
-unfolding decodeChunk notStored
-decoder-held s told o b z =
-    good-held s (by-test (goodDecoder (decoderIn s)) (λ g. g) (λ g. absurd (
-    by-test (ltb 3 told)
+pub decoder_held : (s : List ℕ) (told : ℕ) (o b : List ℕ) → (decode_chunk (decoder_in s) told o b).answer.number ≡ 0 → length s ≡ 125
+unfolding decode_chunk not_stored
+decoder_held s told o b z =
+    good_held s (by_test (good_decoder (decoder_in s)) (λ g. g) (λ g. absurd (
+    by_test (ltb 3 told)
     (λ f. let k : ◌≡◌ {A = ℕ} 1 0 = rw f at z in omega arith)
-    (λ f. by-test (ltb 8000 (length o) || not (eqb (length b) (4 * length o)))
+    (λ f. by_test (ltb 8000 (length o) || not (eqb (length b) (4 * length o)))
     (λ h. let k : ◌≡◌ {A = ℕ} 3 0 = rw (f, h) at z in omega arith)
     (λ h. let k : ◌≡◌ {A = ℕ} 2 0 = rw (f, h, g) at z in omega arith)))))
 
 -- a decoding call has no index
-pub index-none : (d : Decoder) (told : ℕ) (o b : List ℕ) → (decodeChunk d told o b).answer.index ≡ 0
-unfolding decodeChunk notStored asBytes decoded
-index-none d told o b =
-    by-test (ltb 3 told) (λ e. rw e) (λ e.
-    by-test (ltb 8000 (length o) || not (eqb (length b) (4 * length o))) (λ f. rw (e, f)) (λ f.
-    by-test (goodDecoder d) (λ g. rw (e, f, g)) (λ g. rw (e, f, g))))
+pub index_none : (d : Decoder) (told : ℕ) (o b : List ℕ) → (decode_chunk d told o b).answer.index ≡ 0
+unfolding decode_chunk not_stored as_bytes decoded
+index_none d told o b =
+    by_test (ltb 3 told) (λ e. rw e) (λ e.
+    by_test (ltb 8000 (length o) || not (eqb (length b) (4 * length o))) (λ f. rw (e, f)) (λ f.
+    by_test (good_decoder d) (λ g. rw (e, f, g)) (λ g. rw (e, f, g))))

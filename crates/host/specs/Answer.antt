@@ -10,15 +10,15 @@ packed number index limited = number + 2 ^ 8 * index + 2 ^ 32 * limited
 unfoldable pub number_in : ℕ → ℕ
 number_in word = word % 2 ^ 8
 
-unfoldable pub indexIn : ℕ → ℕ
-indexIn word = word / 2 ^ 8 % 2 ^ 24
+unfoldable pub index_in : ℕ → ℕ
+index_in word = word / 2 ^ 8 % 2 ^ 24
 
-unfoldable pub limitedIn : ℕ → ℕ
-limitedIn word = word / 2 ^ 32
+unfoldable pub limited_in : ℕ → ℕ
+limited_in word = word / 2 ^ 32
 
 -- THE LAW: the parts come back, and no bit is beyond the word
-pub parts-back : (number index limited : ℕ) → number < 2 ^ 8 → index < 2 ^ 24 → limited < 2 ^ 32
+pub parts_back : (number index limited : ℕ) → number < 2 ^ 8 → index < 2 ^ 24 → limited < 2 ^ 32
     → let word = packed number index limited in
-    (number_in word ≡ number) × (indexIn word ≡ index) × (limitedIn word ≡ limited) × (word < 2 ^ 64)
-unfolding packed number_in indexIn limitedIn
-parts-back number index limited h k l = (omega arith, omega arith, omega arith, omega arith)
+    (number_in word ≡ number) × (index_in word ≡ index) × (limited_in word ≡ limited) × (word < 2 ^ 64)
+unfolding packed number_in index_in limited_in
+parts_back number index limited h k l = (omega arith, omega arith, omega arith, omega arith)

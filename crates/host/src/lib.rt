@@ -3,7 +3,7 @@
 ghost use Rattle.std.specs.Prelude.{◌≡◌, ◌<◌, ◌^◌};
 ghost use Rattle.laws.specs.Outcome.{Does};
 ghost use Rattle.host.specs.Answer.{packed};
-ghost use Rattle.host.specs.Calls.{codeBytes, decodeBytes, putBytes, takeBytes};
+ghost use Rattle.host.specs.Calls.{code_bytes, decode_bytes, put_bytes, take_bytes};
 
 use pcm::{decode_chunk, encode_chunk};
 use state::{read_coder, read_decoder, write_coder, write_decoder};
@@ -19,7 +19,7 @@ fn packed(number: u8, index: usize, limited: u32) -> u64
 // Codes 4n bytes of samples to n octets.
 #[unsafe(no_mangle)]
 pub extern "C" fn zelcandry_code(state: &mut [u8], samples: &[u8], octets: &mut [u8]) -> u64
-    ensures { Does (codeBytes state.old samples.now octets.old) result
+    ensures { Does (code_bytes state.old samples.now octets.old) result
         (state.new, octets.new) }
 {
     let a = encode_chunk(read_coder(state), samples, octets);
@@ -38,7 +38,7 @@ pub extern "C" fn zelcandry_decode(
     octets: &[u8],
     samples: &mut [u8],
 ) -> u64
-    ensures { Does (decodeBytes state.old mode octets.now samples.old) result
+    ensures { Does (decode_bytes state.old mode octets.now samples.old) result
         (state.new, samples.new) }
 {
     let a = decode_chunk(read_decoder(state), mode, octets, samples);
@@ -52,7 +52,7 @@ pub extern "C" fn zelcandry_decode(
 // Puts data into octets.
 #[unsafe(no_mangle)]
 pub extern "C" fn zelcandry_put(mode: u8, octets: &mut [u8], bytes: &[u8]) -> u64
-    ensures { Does (putBytes mode octets.old bytes.now) result octets.new }
+    ensures { Does (put_bytes mode octets.old bytes.now) result octets.new }
 {
     let a = cue::put(mode, octets, bytes);
     packed(a.number, a.index, 0)
@@ -61,7 +61,7 @@ pub extern "C" fn zelcandry_put(mode: u8, octets: &mut [u8], bytes: &[u8]) -> u6
 // Takes data out of octets.
 #[unsafe(no_mangle)]
 pub extern "C" fn zelcandry_take(mode: u8, octets: &[u8], bytes: &mut [u8]) -> u64
-    ensures { Does (takeBytes mode octets.now bytes.old) result bytes.new }
+    ensures { Does (take_bytes mode octets.now bytes.old) result bytes.new }
 {
     let a = cue::take(mode, octets, bytes);
     packed(a.number, a.index, 0)

@@ -1,18 +1,18 @@
 -- What the contracts of a host's calls allow is there to be had: whatever calls are asked for, some can be made as the contracts allow.
 -- Assumes nothing.
 use Rattle.std.specs.Prelude.{◌≡◌, refl, List, [], map, ℕ}
-use Rattle.host.specs.Calls.{codeBytes, decodeBytes, putBytes}
+use Rattle.host.specs.Calls.{code_bytes, decode_bytes, put_bytes}
 use Rattle.promises.specs.Made.{MadeFrom}
 use Rattle.promises.specs.Allowed.{allowed, Makes, all_made, lent}
 use Rattle.host_promises.specs.Streams.{EncodeInput, StoreInput}
 use Rattle.host_promises.specs.HostCalls.{returned}
 use Rattle.host_promises.specs.HostCarried.{HostParcel}
-use Rattle.host_promises.specs.RunningHost.{HostCode, HostDecode, hostCodes, hostDecodes}
-use Rattle.host_promises.specs.RunningHostData.{HostPut, HostPuts, hostParcel}
+use Rattle.host_promises.specs.RunningHost.{HostCode, HostDecode, host_codes, host_decodes}
+use Rattle.host_promises.specs.RunningHostData.{HostPut, HostPuts, host_parcel}
 
 code : List ℕ → EncodeInput → HostCode
 code s k =
-    let x = returned (codeBytes s k.bytes k.octets) in
+    let x = returned (code_bytes s k.bytes k.octets) in
     record {
       lifetimes = ([], ([], ([], tt)));
       state = lent s;
@@ -24,7 +24,7 @@ code s k =
 
 decode : List ℕ → StoreInput → HostDecode
 decode s k =
-    let x = returned (decodeBytes s k.told k.octets k.bytes) in
+    let x = returned (decode_bytes s k.told k.octets k.bytes) in
     record {
       lifetimes = ([], ([], ([], tt)));
       state = lent s;
@@ -37,7 +37,7 @@ decode s k =
 
 put : HostParcel → HostPut
 put x =
-    let y = putBytes x.mode x.octets x.bytes in
+    let y = put_bytes x.mode x.octets x.bytes in
     record {
       lifetimes = ([], ([], tt));
       mode = x.mode;
@@ -48,23 +48,23 @@ put x =
       samples = x.samples;
     }
 
-pub makes-host-code : Makes hostCodes
+pub makes_host_code : Makes host_codes
 unfolding code lent
-makes-host-code = record { make = code; asked = λ s k. refl; may = λ s k. (refl, allowed (record { answer = refl; left = refl })) }
+makes_host_code = record { make = code; asked = λ s k. refl; may = λ s k. (refl, allowed (record { answer = refl; left = refl })) }
 
-pub makes-host-decode : Makes hostDecodes
+pub makes_host_decode : Makes host_decodes
 unfolding decode lent
-makes-host-decode = record { make = decode; asked = λ s k. refl; may = λ s k. (refl, allowed (record { answer = refl; left = refl })) }
+makes_host_decode = record { make = decode; asked = λ s k. refl; may = λ s k. (refl, allowed (record { answer = refl; left = refl })) }
 
 -- THE THEOREMS: any calls can be made at each end, from any state bytes, and any data can be put in
-pub can-host-code : (state : List ℕ) (ks : List EncodeInput)
-    → (ms : List HostCode) × MadeFrom hostCodes state ms × (map hostCodes.input ms ≡ ks)
-can-host-code = all_made hostCodes makes-host-code
+pub can_host_code : (state : List ℕ) (ks : List EncodeInput)
+    → (ms : List HostCode) × MadeFrom host_codes state ms × (map host_codes.input ms ≡ ks)
+can_host_code = all_made host_codes makes_host_code
 
-pub can-host-decode : (state : List ℕ) (ks : List StoreInput)
-    → (ms : List HostDecode) × MadeFrom hostDecodes state ms × (map hostDecodes.input ms ≡ ks)
-can-host-decode = all_made hostDecodes makes-host-decode
+pub can_host_decode : (state : List ℕ) (ks : List StoreInput)
+    → (ms : List HostDecode) × MadeFrom host_decodes state ms × (map host_decodes.input ms ≡ ks)
+can_host_decode = all_made host_decodes makes_host_decode
 
-pub can-host-put : (x : HostParcel) → (p : HostPut) × HostPuts p × (hostParcel p ≡ x)
+pub can_host_put : (x : HostParcel) → (p : HostPut) × HostPuts p × (host_parcel p ≡ x)
 unfolding put lent
-can-host-put x = (put x, allowed (record { answer = refl; left = refl }), refl)
+can_host_put x = (put x, allowed (record { answer = refl; left = refl }), refl)

@@ -2,16 +2,16 @@
 -- the last reset do not hold for want of a case.
 -- Assumes nothing.
 use Rattle.std.specs.Prelude.{◌≡◌, refl, List, ℕ}
-use Rattle.state.specs.Reset.{resetBytes}
+use Rattle.state.specs.Reset.{reset_bytes}
 use Rattle.promises.specs.Turns.{Turn}
-use Rattle.promises.specs.AllowedTurns.{Turning, all-turns}
+use Rattle.promises.specs.AllowedTurns.{Turning, all_turns}
 use Rattle.host_promises.specs.Streams.{EncodeInput, StoreInput}
-use Rattle.host_promises.specs.RunningHost.{hostCodes, hostDecodes}
-use Rattle.host_promises.specs.AllowedHost.{makes-host-code, makes-host-decode}
+use Rattle.host_promises.specs.RunningHost.{host_codes, host_decodes}
+use Rattle.host_promises.specs.AllowedHost.{makes_host_code, makes_host_decode}
 
 -- THE THEOREMS: any calls and resets can be made at each end by a host
-pub can-host-code-turns : (state : List ℕ) (ts : List (Turn EncodeInput)) → Turning hostCodes (λ s. s ≡ resetBytes 1) state ts
-can-host-code-turns = all-turns hostCodes makes-host-code (λ s. s ≡ resetBytes 1) (resetBytes 1) refl
+pub can_host_code_turns : (state : List ℕ) (ts : List (Turn EncodeInput)) → Turning host_codes (λ s. s ≡ reset_bytes 1) state ts
+can_host_code_turns = all_turns host_codes makes_host_code (λ s. s ≡ reset_bytes 1) (reset_bytes 1) refl
 
-pub can-host-decode-turns : (state : List ℕ) (ts : List (Turn StoreInput)) → Turning hostDecodes (λ s. s ≡ resetBytes 2) state ts
-can-host-decode-turns = all-turns hostDecodes makes-host-decode (λ s. s ≡ resetBytes 2) (resetBytes 2) refl
+pub can_host_decode_turns : (state : List ℕ) (ts : List (Turn StoreInput)) → Turning host_decodes (λ s. s ≡ reset_bytes 2) state ts
+can_host_decode_turns = all_turns host_decodes makes_host_decode (λ s. s ≡ reset_bytes 2) (reset_bytes 2) refl

@@ -5,27 +5,27 @@ use Rattle.std.specs.Prelude.{◌≡◌, List, ℕ, eqb, ℤ}
 use Rattle.std.proofs.Common.{sym, subst, ◌∙◌}
 use Rattle.std.proofs.Math.Path.{ap}
 use Rattle.std.proofs.lemmas.Bool.{eqb-false}
-use Rattle.laws.specs.Order.{by-test}
+use Rattle.laws.specs.Order.{by_test}
 use Rattle.laws.specs.Outcome.{Outcome}
-use Rattle.g722.specs.Records.{resetCoder, resetDecoder}
-use Rattle.g722.specs.Coding.{octetsOf, coderAfter}
+use Rattle.g722.specs.Records.{reset_coder, reset_decoder}
+use Rattle.g722.specs.Coding.{octets_of, coder_after}
 use Rattle.g722.specs.declared.Coder.{Coder}
 use Rattle.g722.specs.declared.Decoder.{Decoder}
-use Rattle.facts.specs.Fits.{CoderFits, DecoderFits, coder-reset-fits, decoder-reset-fits}
-use Rattle.facts.specs.Told.{Told, decoderRun, samplesRun}
-use Rattle.big_endian.specs.Bytes.{pcmBytes}
-use Rattle.pcm.specs.Chunks.{encodeChunk, decodeChunk}
-use Rattle.state.specs.Layout.{coderBytes, coderIn, decoderBytes, decoderIn}
-use Rattle.state.specs.Round.{Holds, coder-back, coder-bytes-back, coder-in-fits, decoder-back, decoder-bytes-back, decoder-in-fits}
-use Rattle.state.specs.Reset.{resetBytes, coder-reset-bytes, decoder-reset-bytes}
+use Rattle.facts.specs.Fits.{CoderFits, DecoderFits, coder_reset_fits, decoder_reset_fits}
+use Rattle.facts.specs.Told.{Told, decoder_run, samples_run}
+use Rattle.big_endian.specs.Bytes.{pcm_bytes}
+use Rattle.pcm.specs.Chunks.{encode_chunk, decode_chunk}
+use Rattle.state.specs.Layout.{coder_bytes, coder_in, decoder_bytes, decoder_in}
+use Rattle.state.specs.Round.{Holds, coder_back, coder_bytes_back, coder_in_fits, decoder_back, decoder_bytes_back, decoder_in_fits}
+use Rattle.state.specs.Reset.{reset_bytes, coder_reset_bytes, decoder_reset_bytes}
 use Rattle.host.specs.Answer.{number_in}
-use Rattle.host.specs.Calls.{afterCoding, codeBytes, afterDecoding, decodeBytes}
+use Rattle.host.specs.Calls.{after_coding, code_bytes, after_decoding, decode_bytes}
 use Rattle.promises.specs.Through.{Calls, through, taken, lefts}
-use Rattle.host_promises.specs.ChunksRefused.{encode-chunk-beside, decode-chunk-beside}
-use Rattle.host_promises.specs.Streams.{EncodeInput, encoding, encoding-runs, StoreInput, storing, storing-runs}
-use Rattle.host_promises.specs.Fitting.{encode-stays-fitting, store-stays-fitting}
-use Rattle.host_promises.specs.Packed.{code-parts, decode-parts}
-use Rattle.host_promises.specs.Kept.{Keeps, kept, kept-as-one-run, kept-left-as-one-run}
+use Rattle.host_promises.specs.ChunksRefused.{encode_chunk_beside, decode_chunk_beside}
+use Rattle.host_promises.specs.Streams.{EncodeInput, encoding, encoding_runs, StoreInput, storing, storing_runs}
+use Rattle.host_promises.specs.Fitting.{encode_stays_fitting, store_stays_fitting}
+use Rattle.host_promises.specs.Packed.{code_parts, decode_parts}
+use Rattle.host_promises.specs.Kept.{Keeps, kept, kept_as_one_run, kept_left_as_one_run}
 
 -- what a host has after a call: the word that it answered, and the state
 pub record Returned : Type 0 where
@@ -38,147 +38,147 @@ returned x = record { answer = record { word = x.answer; state = x.left.0 }; lef
 -- ---- coding
 
 module _ (c : Coder) (k : EncodeInput) (f : CoderFits c) where
-  pub code-number : number_in (codeBytes (coderBytes c) k.bytes k.octets).answer
-      ≡ (encodeChunk c k.bytes k.octets).answer.number
-  code-number =
-      (code-parts (coderBytes c) k.bytes k.octets).number
-      ∙ ap (λ (t : Coder). (encodeChunk t k.bytes k.octets).answer.number) (coder-back c f)
+  pub code_number : number_in (code_bytes (coder_bytes c) k.bytes k.octets).answer
+      ≡ (encode_chunk c k.bytes k.octets).answer.number
+  code_number =
+      (code_parts (coder_bytes c) k.bytes k.octets).number
+      ∙ ap (λ (t : Coder). (encode_chunk t k.bytes k.octets).answer.number) (coder_back c f)
 
-  pub code-left : (codeBytes (coderBytes c) k.bytes k.octets).left.1 ≡ (encodeChunk c k.bytes k.octets).left
-  unfolding codeBytes afterCoding
-  code-left = ap (λ (t : Coder). (encodeChunk t k.bytes k.octets).left) (coder-back c f)
+  pub code_left : (code_bytes (coder_bytes c) k.bytes k.octets).left.1 ≡ (encode_chunk c k.bytes k.octets).left
+  unfolding code_bytes after_coding
+  code_left = ap (λ (t : Coder). (encode_chunk t k.bytes k.octets).left) (coder_back c f)
 
-  pub code-next : (codeBytes (coderBytes c) k.bytes k.octets).left.0 ≡ coderBytes (encodeChunk c k.bytes k.octets).answer.next
-  unfolding codeBytes afterCoding
-  code-next =
-      rw (coder-back c f) (by-test (eqb (encodeChunk c k.bytes k.octets).answer.number 0)
+  pub code_next : (code_bytes (coder_bytes c) k.bytes k.octets).left.0 ≡ coder_bytes (encode_chunk c k.bytes k.octets).answer.next
+  unfolding code_bytes after_coding
+  code_next =
+      rw (coder_back c f) (by_test (eqb (encode_chunk c k.bytes k.octets).answer.number 0)
       (λ e. rw e)
-      (λ e. rw e (ap (λ p. coderBytes p.0) (sym ((encode-chunk-beside c k.bytes k.octets).kept (eqb-false _ _ e))))))
+      (λ e. rw e (ap (λ p. coder_bytes p.0) (sym ((encode_chunk_beside c k.bytes k.octets).kept (eqb-false _ _ e))))))
 
-abbrev pub code-keeps : Keeps encoding
-code-keeps =
+abbrev pub code_keeps : Keeps encoding
+code_keeps =
     record {
       Kept = List ℕ;
       Answer = Returned;
-      call = λ s k. returned (codeBytes s k.bytes k.octets);
+      call = λ s k. returned (code_bytes s k.bytes k.octets);
       number = λ a. number_in a.word;
       next = λ a. a.state;
-      form = coderBytes;
-      read = coderIn;
+      form = coder_bytes;
+      read = coder_in;
       Fits = CoderFits;
-      same_number = code-number;
-      same_left = code-left;
-      same_next = code-next;
-      stays = λ c k f. encode-stays-fitting c k.bytes k.octets f;
+      same_number = code_number;
+      same_left = code_left;
+      same_next = code_next;
+      stays = λ c k f. encode_stays_fitting c k.bytes k.octets f;
     }
 
 -- the host's coding calls; what they send, and the samples that the accepted ones were given
-abbrev pub hostCoding : Calls
-hostCoding = kept code-keeps
+abbrev pub host_coding : Calls
+host_coding = kept code_keeps
 
-abbrev pub hostSent : List ℕ → List EncodeInput → List ℕ
-hostSent = lefts hostCoding
+abbrev pub host_sent : List ℕ → List EncodeInput → List ℕ
+host_sent = lefts host_coding
 
-abbrev pub hostSpoken : List ℕ → List EncodeInput → List ℤ
-hostSpoken = taken hostCoding
+abbrev pub host_spoken : List ℕ → List EncodeInput → List ℤ
+host_spoken = taken host_coding
 
 -- THE THEOREMS, of coding: from any bytes that hold a record ..
 module _ (state : List ℕ) (h : Holds 1 state) (ks : List EncodeInput) where
-  pub host-octets-as-one-run : hostSent state ks ≡ octetsOf (coderIn state) (hostSpoken state ks)
-  host-octets-as-one-run =
-      subst (λ (s : List ℕ). hostSent s ks ≡ octetsOf (coderIn state) (hostSpoken s ks)) (coder-bytes-back state h)
-      (kept-left-as-one-run code-keeps encoding-runs (coderIn state) ks (coder-in-fits state h))
+  pub host_octets_as_one_run : host_sent state ks ≡ octets_of (coder_in state) (host_spoken state ks)
+  host_octets_as_one_run =
+      subst (λ (s : List ℕ). host_sent s ks ≡ octets_of (coder_in state) (host_spoken s ks)) (coder_bytes_back state h)
+      (kept_left_as_one_run code_keeps encoding_runs (coder_in state) ks (coder_in_fits state h))
 
-  pub host-coder-as-one-run : through hostCoding state ks ≡ coderBytes (coderAfter (coderIn state) (hostSpoken state ks))
-  host-coder-as-one-run =
-      subst (λ (s : List ℕ). through hostCoding s ks ≡ coderBytes (coderAfter (coderIn state) (hostSpoken s ks)))
-      (coder-bytes-back state h)
-      (kept-as-one-run code-keeps encoding-runs (coderIn state) ks (coder-in-fits state h))
+  pub host_coder_as_one_run : through host_coding state ks ≡ coder_bytes (coder_after (coder_in state) (host_spoken state ks))
+  host_coder_as_one_run =
+      subst (λ (s : List ℕ). through host_coding s ks ≡ coder_bytes (coder_after (coder_in state) (host_spoken s ks)))
+      (coder_bytes_back state h)
+      (kept_as_one_run code_keeps encoding_runs (coder_in state) ks (coder_in_fits state h))
 
 -- .. and from the reset bytes
 module _ (ks : List EncodeInput) where
-  pub host-octets-from-reset : hostSent (resetBytes 1) ks ≡ octetsOf resetCoder (hostSpoken (resetBytes 1) ks)
-  host-octets-from-reset =
-      subst (λ (s : List ℕ). hostSent s ks ≡ octetsOf resetCoder (hostSpoken s ks)) coder-reset-bytes
-      (kept-left-as-one-run code-keeps encoding-runs resetCoder ks coder-reset-fits)
+  pub host_octets_from_reset : host_sent (reset_bytes 1) ks ≡ octets_of reset_coder (host_spoken (reset_bytes 1) ks)
+  host_octets_from_reset =
+      subst (λ (s : List ℕ). host_sent s ks ≡ octets_of reset_coder (host_spoken s ks)) coder_reset_bytes
+      (kept_left_as_one_run code_keeps encoding_runs reset_coder ks coder_reset_fits)
 
-  pub host-coder-from-reset : through hostCoding (resetBytes 1) ks ≡ coderBytes (coderAfter resetCoder (hostSpoken (resetBytes 1) ks))
-  host-coder-from-reset =
-      subst (λ (s : List ℕ). through hostCoding s ks ≡ coderBytes (coderAfter resetCoder (hostSpoken s ks))) coder-reset-bytes
-      (kept-as-one-run code-keeps encoding-runs resetCoder ks coder-reset-fits)
+  pub host_coder_from_reset : through host_coding (reset_bytes 1) ks ≡ coder_bytes (coder_after reset_coder (host_spoken (reset_bytes 1) ks))
+  host_coder_from_reset =
+      subst (λ (s : List ℕ). through host_coding s ks ≡ coder_bytes (coder_after reset_coder (host_spoken s ks))) coder_reset_bytes
+      (kept_as_one_run code_keeps encoding_runs reset_coder ks coder_reset_fits)
 
 -- ---- decoding
 
 module _ (d : Decoder) (k : StoreInput) (f : DecoderFits d) where
-  pub decode-number : number_in (decodeBytes (decoderBytes d) k.told k.octets k.bytes).answer
-      ≡ (decodeChunk d k.told k.octets k.bytes).answer.number
-  decode-number =
-      (decode-parts (decoderBytes d) k.told k.octets k.bytes).number
-      ∙ ap (λ (t : Decoder). (decodeChunk t k.told k.octets k.bytes).answer.number) (decoder-back d f)
+  pub decode_number : number_in (decode_bytes (decoder_bytes d) k.told k.octets k.bytes).answer
+      ≡ (decode_chunk d k.told k.octets k.bytes).answer.number
+  decode_number =
+      (decode_parts (decoder_bytes d) k.told k.octets k.bytes).number
+      ∙ ap (λ (t : Decoder). (decode_chunk t k.told k.octets k.bytes).answer.number) (decoder_back d f)
 
-  pub decode-left : (decodeBytes (decoderBytes d) k.told k.octets k.bytes).left.1
-      ≡ (decodeChunk d k.told k.octets k.bytes).left
-  unfolding decodeBytes afterDecoding
-  decode-left = ap (λ (t : Decoder). (decodeChunk t k.told k.octets k.bytes).left) (decoder-back d f)
+  pub decode_left : (decode_bytes (decoder_bytes d) k.told k.octets k.bytes).left.1
+      ≡ (decode_chunk d k.told k.octets k.bytes).left
+  unfolding decode_bytes after_decoding
+  decode_left = ap (λ (t : Decoder). (decode_chunk t k.told k.octets k.bytes).left) (decoder_back d f)
 
-  pub decode-next : (decodeBytes (decoderBytes d) k.told k.octets k.bytes).left.0
-      ≡ decoderBytes (decodeChunk d k.told k.octets k.bytes).answer.next
-  unfolding decodeBytes afterDecoding
-  decode-next =
-      rw (decoder-back d f) (by-test (eqb (decodeChunk d k.told k.octets k.bytes).answer.number 0)
+  pub decode_next : (decode_bytes (decoder_bytes d) k.told k.octets k.bytes).left.0
+      ≡ decoder_bytes (decode_chunk d k.told k.octets k.bytes).answer.next
+  unfolding decode_bytes after_decoding
+  decode_next =
+      rw (decoder_back d f) (by_test (eqb (decode_chunk d k.told k.octets k.bytes).answer.number 0)
       (λ e. rw e)
-      (λ e. rw e (ap (λ p. decoderBytes p.0)
-      (sym ((decode-chunk-beside d k.told k.octets k.bytes).kept (eqb-false _ _ e))))))
+      (λ e. rw e (ap (λ p. decoder_bytes p.0)
+      (sym ((decode_chunk_beside d k.told k.octets k.bytes).kept (eqb-false _ _ e))))))
 
-abbrev pub decode-keeps : Keeps storing
-decode-keeps =
+abbrev pub decode_keeps : Keeps storing
+decode_keeps =
     record {
       Kept = List ℕ;
       Answer = Returned;
-      call = λ s k. returned (decodeBytes s k.told k.octets k.bytes);
+      call = λ s k. returned (decode_bytes s k.told k.octets k.bytes);
       number = λ a. number_in a.word;
       next = λ a. a.state;
-      form = decoderBytes;
-      read = decoderIn;
+      form = decoder_bytes;
+      read = decoder_in;
       Fits = DecoderFits;
-      same_number = decode-number;
-      same_left = decode-left;
-      same_next = decode-next;
-      stays = λ d k f. store-stays-fitting d k.told k.octets k.bytes f;
+      same_number = decode_number;
+      same_left = decode_left;
+      same_next = decode_next;
+      stays = λ d k f. store_stays_fitting d k.told k.octets k.bytes f;
     }
 
 -- the host's decoding calls; the sample bytes that they leave, and the octets that the accepted ones were given, with their modes
-abbrev pub hostDecoding : Calls
-hostDecoding = kept decode-keeps
+abbrev pub host_decoding : Calls
+host_decoding = kept decode_keeps
 
-abbrev pub hostHeard : List ℕ → List StoreInput → List ℕ
-hostHeard = lefts hostDecoding
+abbrev pub host_heard : List ℕ → List StoreInput → List ℕ
+host_heard = lefts host_decoding
 
-abbrev pub hostCame : List ℕ → List StoreInput → List Told
-hostCame = taken hostDecoding
+abbrev pub host_came : List ℕ → List StoreInput → List Told
+host_came = taken host_decoding
 
 -- THE THEOREMS, of decoding: from any bytes that hold a record ..
 module _ (state : List ℕ) (h : Holds 2 state) (ks : List StoreInput) where
-  pub host-samples-as-one-run : hostHeard state ks ≡ pcmBytes (samplesRun (decoderIn state) (hostCame state ks))
-  host-samples-as-one-run =
-      subst (λ (s : List ℕ). hostHeard s ks ≡ pcmBytes (samplesRun (decoderIn state) (hostCame s ks))) (decoder-bytes-back state h)
-      (kept-left-as-one-run decode-keeps storing-runs (decoderIn state) ks (decoder-in-fits state h))
+  pub host_samples_as_one_run : host_heard state ks ≡ pcm_bytes (samples_run (decoder_in state) (host_came state ks))
+  host_samples_as_one_run =
+      subst (λ (s : List ℕ). host_heard s ks ≡ pcm_bytes (samples_run (decoder_in state) (host_came s ks))) (decoder_bytes_back state h)
+      (kept_left_as_one_run decode_keeps storing_runs (decoder_in state) ks (decoder_in_fits state h))
 
-  pub host-decoder-as-one-run : through hostDecoding state ks ≡ decoderBytes (decoderRun (decoderIn state) (hostCame state ks))
-  host-decoder-as-one-run =
-      subst (λ (s : List ℕ). through hostDecoding s ks ≡ decoderBytes (decoderRun (decoderIn state) (hostCame s ks)))
-      (decoder-bytes-back state h)
-      (kept-as-one-run decode-keeps storing-runs (decoderIn state) ks (decoder-in-fits state h))
+  pub host_decoder_as_one_run : through host_decoding state ks ≡ decoder_bytes (decoder_run (decoder_in state) (host_came state ks))
+  host_decoder_as_one_run =
+      subst (λ (s : List ℕ). through host_decoding s ks ≡ decoder_bytes (decoder_run (decoder_in state) (host_came s ks)))
+      (decoder_bytes_back state h)
+      (kept_as_one_run decode_keeps storing_runs (decoder_in state) ks (decoder_in_fits state h))
 
 -- .. and from the reset bytes
 module _ (ks : List StoreInput) where
-  pub host-samples-from-reset : hostHeard (resetBytes 2) ks ≡ pcmBytes (samplesRun resetDecoder (hostCame (resetBytes 2) ks))
-  host-samples-from-reset =
-      subst (λ (s : List ℕ). hostHeard s ks ≡ pcmBytes (samplesRun resetDecoder (hostCame s ks))) decoder-reset-bytes
-      (kept-left-as-one-run decode-keeps storing-runs resetDecoder ks decoder-reset-fits)
+  pub host_samples_from_reset : host_heard (reset_bytes 2) ks ≡ pcm_bytes (samples_run reset_decoder (host_came (reset_bytes 2) ks))
+  host_samples_from_reset =
+      subst (λ (s : List ℕ). host_heard s ks ≡ pcm_bytes (samples_run reset_decoder (host_came s ks))) decoder_reset_bytes
+      (kept_left_as_one_run decode_keeps storing_runs reset_decoder ks decoder_reset_fits)
 
-  pub host-decoder-from-reset : through hostDecoding (resetBytes 2) ks
-      ≡ decoderBytes (decoderRun resetDecoder (hostCame (resetBytes 2) ks))
-  host-decoder-from-reset =
-      subst (λ (s : List ℕ). through hostDecoding s ks ≡ decoderBytes (decoderRun resetDecoder (hostCame s ks))) decoder-reset-bytes
-      (kept-as-one-run decode-keeps storing-runs resetDecoder ks decoder-reset-fits)
+  pub host_decoder_from_reset : through host_decoding (reset_bytes 2) ks
+      ≡ decoder_bytes (decoder_run reset_decoder (host_came (reset_bytes 2) ks))
+  host_decoder_from_reset =
+      subst (λ (s : List ℕ). through host_decoding s ks ≡ decoder_bytes (decoder_run reset_decoder (host_came s ks))) decoder_reset_bytes
+      (kept_as_one_run decode_keeps storing_runs reset_decoder ks decoder_reset_fits)

@@ -4,22 +4,22 @@
 use Rattle.std.specs.Prelude.{◌≡◌, refl, ℕ, ◌*◌, take}
 use Rattle.std.proofs.Common.{sym, ap, ap₂, ◌∙◌}
 use mathlib.Core.List.{List, [], ◌∷◌, ◌++◌, map, flat_map, map-append}
-use Rattle.g722.specs.Records.{resetCoder, resetDecoder}
-use Rattle.g722.specs.Coding.{coderAfter}
-use Rattle.cue.specs.Round.{upper-six-kept}
-use Rattle.facts.specs.Told.{Told, decoderRun}
-use Rattle.facts.specs.Upper.{upperSix}
-use Rattle.state.specs.Layout.{coderBytes, decoderBytes}
-use Rattle.state.specs.Reset.{resetBytes}
-use Rattle.host.specs.Calls.{afterData, putBytes}
+use Rattle.g722.specs.Records.{reset_coder, reset_decoder}
+use Rattle.g722.specs.Coding.{coder_after}
+use Rattle.cue.specs.Round.{upper_six_kept}
+use Rattle.facts.specs.Told.{Told, decoder_run}
+use Rattle.facts.specs.Upper.{upper_six}
+use Rattle.state.specs.Layout.{coder_bytes, decoder_bytes}
+use Rattle.state.specs.Reset.{reset_bytes}
+use Rattle.host.specs.Calls.{after_data, put_bytes}
 use Rattle.promises.specs.Through.{through, answers}
 use Rattle.promises.specs.Ends.{AsSent}
-use Rattle.promises.specs.Carried.{heard-kept}
+use Rattle.promises.specs.Carried.{heard_kept}
 use Rattle.promises.specs.Alike.{Each, none, more}
 use Rattle.host_promises.specs.Streams.{EncodeInput, StoreInput}
-use Rattle.host_promises.specs.HostCalls.{hostSent, hostSpoken, hostDecoding, hostHeard}
-use Rattle.host_promises.specs.HostEnds.{bands, host-ends-equal}
-use Rattle.host_promises.specs.HostUnheard.{AlikeInput, host-answers-unheard, host-state-unheard, host-samples-unheard}
+use Rattle.host_promises.specs.HostCalls.{host_sent, host_spoken, host_decoding, host_heard}
+use Rattle.host_promises.specs.HostEnds.{bands, host_ends_equal}
+use Rattle.host_promises.specs.HostUnheard.{AlikeInput, host_answers_unheard, host_state_unheard, host_samples_unheard}
 
 -- octets that go together, with the data to be put into them, the mode for it, and the memory lent for their sample bytes
 pub record HostParcel : Type 0 where
@@ -29,45 +29,45 @@ pub record HostParcel : Type 0 where
   pub samples : List ℕ
 
 -- the octets with the data put in
-abbrev pub hostLaden : HostParcel → List ℕ
-hostLaden p = (putBytes p.mode p.octets p.bytes).left
+abbrev pub host_laden : HostParcel → List ℕ
+host_laden p = (put_bytes p.mode p.octets p.bytes).left
 
 -- their decoding in that mode, with the data and without
-abbrev pub hostWithData : HostParcel → StoreInput
-hostWithData p = record { told = p.mode; octets = hostLaden p; bytes = p.samples }
+abbrev pub host_with_data : HostParcel → StoreInput
+host_with_data p = record { told = p.mode; octets = host_laden p; bytes = p.samples }
 
-abbrev pub hostWithoutData : HostParcel → StoreInput
-hostWithoutData p = record { told = p.mode; octets = p.octets; bytes = p.samples }
+abbrev pub host_without_data : HostParcel → StoreInput
+host_without_data p = record { told = p.mode; octets = p.octets; bytes = p.samples }
 
 -- all upper six bits stay, and so does what is heard
-pub host-six-kept : (ps : List HostParcel) → map upperSix (flat_map hostLaden ps) ≡ map upperSix (flat_map (λ p. p.octets) ps)
-unfolding flat_map putBytes afterData
-host-six-kept [] = refl
-host-six-kept (p ∷ ps) =
-    map-append upperSix (hostLaden p) (flat_map hostLaden ps)
-    ∙ ap₂ ◌++◌ (upper-six-kept p.mode p.octets p.bytes) (host-six-kept ps)
-    ∙ sym (map-append upperSix p.octets (flat_map (λ (q : HostParcel). q.octets) ps))
+pub host_six_kept : (ps : List HostParcel) → map upper_six (flat_map host_laden ps) ≡ map upper_six (flat_map (λ p. p.octets) ps)
+unfolding flat_map put_bytes after_data
+host_six_kept [] = refl
+host_six_kept (p ∷ ps) =
+    map-append upper_six (host_laden p) (flat_map host_laden ps)
+    ∙ ap₂ ◌++◌ (upper_six_kept p.mode p.octets p.bytes) (host_six_kept ps)
+    ∙ sym (map-append upper_six p.octets (flat_map (λ (q : HostParcel). q.octets) ps))
 
-pub host-alike : (ps : List HostParcel) → Each AlikeInput (map hostWithData ps) (map hostWithoutData ps)
-unfolding putBytes afterData
-host-alike [] = none
-host-alike (p ∷ ps) =
-    more (record { told = refl; octets = heard-kept p.mode p.octets p.bytes; bytes = refl }) (host-alike ps)
+pub host_alike : (ps : List HostParcel) → Each AlikeInput (map host_with_data ps) (map host_without_data ps)
+unfolding put_bytes after_data
+host_alike [] = none
+host_alike (p ∷ ps) =
+    more (record { told = refl; octets = heard_kept p.mode p.octets p.bytes; bytes = refl }) (host_alike ps)
 
 -- THE THEOREMS. What any calls of a host from the reset bytes coded is cut into parcels, and any data is put into each in any mode, or
 -- none. Wherever the first n octets came as they went out, the bytes of both bands are the same at both ends after the n-th ..
-pub host-data-carried : (ks : List EncodeInput) (ps : List HostParcel) → hostSent (resetBytes 1) ks ≡ flat_map (λ p. p.octets) ps
-    → (ts : List Told) (n : ℕ) → AsSent n (flat_map hostLaden ps) ts
-    → bands (coderBytes (coderAfter resetCoder (take (2 * n) (hostSpoken (resetBytes 1) ks))))
-    ≡ bands (decoderBytes (decoderRun resetDecoder (take n ts)))
-host-data-carried ks ps e ts n f =
-    host-ends-equal ks ts n (ap (λ l. take n (map upperSix l)) e ∙ ap (take n) (sym (host-six-kept ps)) ∙ f)
+pub host_data_carried : (ks : List EncodeInput) (ps : List HostParcel) → host_sent (reset_bytes 1) ks ≡ flat_map (λ p. p.octets) ps
+    → (ts : List Told) (n : ℕ) → AsSent n (flat_map host_laden ps) ts
+    → bands (coder_bytes (coder_after reset_coder (take (2 * n) (host_spoken (reset_bytes 1) ks))))
+    ≡ bands (decoder_bytes (decoder_run reset_decoder (take n ts)))
+host_data_carried ks ps e ts n f =
+    host_ends_equal ks ts n (ap (λ l. take n (map upper_six l)) e ∙ ap (take n) (sym (host_six_kept ps)) ∙ f)
 
 -- .. and from any state bytes, each parcel decoded in the mode of its data gives the answers, state and sample bytes that it gives
 -- without
-pub host-data-unheard : (state : List ℕ) (ps : List HostParcel)
-    → (answers hostDecoding state (map hostWithData ps) ≡ answers hostDecoding state (map hostWithoutData ps))
-    × (through hostDecoding state (map hostWithData ps) ≡ through hostDecoding state (map hostWithoutData ps))
-    × (hostHeard state (map hostWithData ps) ≡ hostHeard state (map hostWithoutData ps))
-host-data-unheard state ps =
-    let a = host-alike ps in (host-answers-unheard state a, host-state-unheard state a, host-samples-unheard state a)
+pub host_data_unheard : (state : List ℕ) (ps : List HostParcel)
+    → (answers host_decoding state (map host_with_data ps) ≡ answers host_decoding state (map host_without_data ps))
+    × (through host_decoding state (map host_with_data ps) ≡ through host_decoding state (map host_without_data ps))
+    × (host_heard state (map host_with_data ps) ≡ host_heard state (map host_without_data ps))
+host_data_unheard state ps =
+    let a = host_alike ps in (host_answers_unheard state a, host_state_unheard state a, host_samples_unheard state a)

@@ -4,44 +4,44 @@
 use Rattle.std.specs.Prelude.{◌≡◌, refl, List, [], ◌∷◌, map, replicate}
 use Rattle.std.proofs.Common.{sym, ap, ◌∙◌}
 use Rattle.g722.specs.Opened.{meaning}
-use Rattle.facts.specs.Upper.{upperSix}
-use Rattle.big_endian.specs.Bytes.{sampleOf, pcmSamples, word_of, high_of, low_of, pcmBytes}
-use Rattle.pcm.specs.Chunks.{encodeChunk, notStored, asBytes, decodeChunk}
-use Rattle.state.specs.Layout.{bandValues, coderValues, decoderValues, coderBytes, decoderBytes}
-use Rattle.state.specs.Layout.{bandOf, coderOf, decoderOf, holds, coderIn, decoderIn}
-use Rattle.state.specs.Reset.{resetBytes}
+use Rattle.facts.specs.Upper.{upper_six}
+use Rattle.big_endian.specs.Bytes.{sample_of, pcm_samples, word_of, high_of, low_of, pcm_bytes}
+use Rattle.pcm.specs.Chunks.{encode_chunk, not_stored, as_bytes, decode_chunk}
+use Rattle.state.specs.Layout.{band_values, coder_values, decoder_values, coder_bytes, decoder_bytes}
+use Rattle.state.specs.Layout.{band_of, coder_of, decoder_of, holds, coder_in, decoder_in}
+use Rattle.state.specs.Reset.{reset_bytes}
 use Rattle.host.specs.Answer.{packed, number_in}
-use Rattle.host.specs.Calls.{afterCoding, codeBytes, afterDecoding, decodeBytes}
-use Rattle.promises.specs.Through.{through, answers, ofAccepted}
+use Rattle.host.specs.Calls.{after_coding, code_bytes, after_decoding, decode_bytes}
+use Rattle.promises.specs.Through.{through, answers, of_accepted}
 use Rattle.promises.specs.StepRuns.{received}
 use Rattle.host_promises.specs.Streams.{EncodeInput, StoreInput}
-use Rattle.host_promises.specs.HostCalls.{Returned, hostCoding, hostSent, hostDecoding, hostCame}
-use Rattle.host_promises.specs.HostEnds.{bands, host-states-equal}
+use Rattle.host_promises.specs.HostCalls.{Returned, host_coding, host_sent, host_decoding, host_came}
+use Rattle.host_promises.specs.HostEnds.{bands, host_states_equal}
 
 -- 0, 900, 2400 and -300; then 5 and 16384, which is out of range
-abbrev pub hostCalls : List EncodeInput
-hostCalls =
+abbrev pub host_calls : List EncodeInput
+host_calls =
     record { bytes = 0 ∷ 0 ∷ 3 ∷ 132 ∷ 9 ∷ 96 ∷ 254 ∷ 212 ∷ []; octets = replicate 2 0 }
     ∷ record { bytes = 0 ∷ 5 ∷ 64 ∷ 0 ∷ []; octets = replicate 1 7 }
     ∷ []
 
-abbrev pub hostReplies : List StoreInput
-hostReplies = record { told = 3; octets = 0xFA ∷ 0x97 ∷ []; bytes = replicate 8 0 } ∷ []
+abbrev pub host_replies : List StoreInput
+host_replies = record { told = 3; octets = 0xFA ∷ 0x97 ∷ []; bytes = replicate 8 0 } ∷ []
 
 -- the words of the coding calls and what they sent; the word of the decoding call and what came
 pub record HostWitnessed : Type 0 where
-  pub codes : map (λ (a : Returned). a.word) (answers hostCoding (resetBytes 1) hostCalls) ≡ 0 ∷ packed 4 1 0 ∷ []
-  pub sends : hostSent (resetBytes 1) hostCalls ≡ 0xFA ∷ 0x94 ∷ []
-  pub decodes : map (λ (a : Returned). a.word) (answers hostDecoding (resetBytes 2) hostReplies) ≡ 0 ∷ []
-  pub comes : received (hostCame (resetBytes 2) hostReplies) ≡ 0xFA ∷ 0x97 ∷ []
+  pub codes : map (λ (a : Returned). a.word) (answers host_coding (reset_bytes 1) host_calls) ≡ 0 ∷ packed 4 1 0 ∷ []
+  pub sends : host_sent (reset_bytes 1) host_calls ≡ 0xFA ∷ 0x94 ∷ []
+  pub decodes : map (λ (a : Returned). a.word) (answers host_decoding (reset_bytes 2) host_replies) ≡ 0 ∷ []
+  pub comes : received (host_came (reset_bytes 2) host_replies) ≡ 0xFA ∷ 0x97 ∷ []
 
-pub host-witnessed : HostWitnessed
-unfolding meaning sampleOf pcmSamples word_of high_of low_of pcmBytes encodeChunk notStored asBytes decodeChunk
-    bandValues coderValues decoderValues coderBytes decoderBytes bandOf coderOf decoderOf holds coderIn decoderIn resetBytes
-    packed number_in afterCoding codeBytes afterDecoding decodeBytes through answers ofAccepted
-host-witnessed = record { codes = refl; sends = refl; decodes = refl; comes = refl }
+pub host_witnessed : HostWitnessed
+unfolding meaning sample_of pcm_samples word_of high_of low_of pcm_bytes encode_chunk not_stored as_bytes decode_chunk
+    band_values coder_values decoder_values coder_bytes decoder_bytes band_of coder_of decoder_of holds coder_in decoder_in reset_bytes
+    packed number_in after_coding code_bytes after_decoding decode_bytes through answers of_accepted
+host_witnessed = record { codes = refl; sends = refl; decodes = refl; comes = refl }
 
 -- and so its states are equal in the bytes of both bands
-pub host-witness-equal : bands (through hostCoding (resetBytes 1) hostCalls) ≡ bands (through hostDecoding (resetBytes 2) hostReplies)
-host-witness-equal =
-    host-states-equal hostCalls hostReplies (ap (map upperSix) host-witnessed.sends ∙ ap (map upperSix) (sym host-witnessed.comes))
+pub host_witness_equal : bands (through host_coding (reset_bytes 1) host_calls) ≡ bands (through host_decoding (reset_bytes 2) host_replies)
+host_witness_equal =
+    host_states_equal host_calls host_replies (ap (map upper_six) host_witnessed.sends ∙ ap (map upper_six) (sym host_witnessed.comes))

@@ -7,8 +7,8 @@ use Rattle.std.proofs.Common.{sym, ◌∙◌}
 use Rattle.std.proofs.Math.Bool.{cond}
 use mathlib.Core.List.{List, [], ◌∷◌, ◌++◌, map}
 use Rattle.laws.specs.Outcome.{Outcome}
-use Rattle.promises.specs.Through.{Calls, Runs, following, through, answers, ofAccepted, accepted, taken, lefts}
-use Rattle.promises.specs.Through.{as-one-run, left-as-one-run}
+use Rattle.promises.specs.Through.{Calls, Runs, following, through, answers, of_accepted, accepted, taken, lefts}
+use Rattle.promises.specs.Through.{as_one_run, left_as_one_run}
 
 -- the host's calls beside those of C: what it keeps of a record, and what it reads there; which records it can keep
 pub record Keeps (C : Calls) : Type 1 where
@@ -47,54 +47,54 @@ module _ {C : Calls} (K : Keeps C) where
   open K use {Kept, form, Fits, same_number, same_left, same_next, stays}
 
   -- THE LAW: what is kept in the end is the form of the record in the end ..
-  pub kept-through : (s : State) (ks : List Input) → Fits s → through (kept K) (form s) ks ≡ form (through C s ks)
+  pub kept_through : (s : State) (ks : List Input) → Fits s → through (kept K) (form s) ks ≡ form (through C s ks)
   unfolding through
-  kept-through s [] f = refl
-  kept-through s (k ∷ ks) f =
-      ap (λ (t : Kept). through (kept K) t ks) (same_next s k f) ∙ kept-through (following C s k) ks (stays s k f)
+  kept_through s [] f = refl
+  kept_through s (k ∷ ks) f =
+      ap (λ (t : Kept). through (kept K) t ks) (same_next s k f) ∙ kept_through (following C s k) ks (stays s k f)
 
   -- .. which can be kept again ..
-  pub through-fits : (s : State) (ks : List Input) → Fits s → Fits (through C s ks)
+  pub through_fits : (s : State) (ks : List Input) → Fits s → Fits (through C s ks)
   unfolding through
-  through-fits s [] f = f
-  through-fits s (k ∷ ks) f = through-fits (following C s k) ks (stays s k f)
+  through_fits s [] f = f
+  through_fits s (k ∷ ks) f = through_fits (following C s k) ks (stays s k f)
 
   -- .. and what is the same of each call is the same of the accepted ones
   pub kept_of : {Z : Type 0} (g : Kept → Input → List Z) (h : State → Input → List Z)
       → ((s : State) (k : Input) → Fits s → g (form s) k ≡ h s k)
-      → (s : State) (ks : List Input) → Fits s → ofAccepted (kept K) g (form s) ks ≡ ofAccepted C h s ks
-  unfolding ofAccepted
+      → (s : State) (ks : List Input) → Fits s → of_accepted (kept K) g (form s) ks ≡ of_accepted C h s ks
+  unfolding of_accepted
   kept_of g h same s [] f = refl
   kept_of g h same s (k ∷ ks) f =
       λ i. cond (eqb (same_number s k f i) 0) (same s k f i) []
-      ++ (ap (λ (t : Kept). ofAccepted (kept K) g t ks) (same_next s k f) ∙ kept_of g h same (following C s k) ks (stays s k f)) i
+      ++ (ap (λ (t : Kept). of_accepted (kept K) g t ks) (same_next s k f) ∙ kept_of g h same (following C s k) ks (stays s k f)) i
 
   -- so the same calls are accepted, are given the same, and leave the same
   module _ (s : State) (ks : List Input) (f : Fits s) where
-    pub kept-accepted : accepted (kept K) (form s) ks ≡ accepted C s ks
-    kept-accepted = kept_of (λ t k. k ∷ []) (λ t k. k ∷ []) (λ t k g. refl) s ks f
+    pub kept_accepted : accepted (kept K) (form s) ks ≡ accepted C s ks
+    kept_accepted = kept_of (λ t k. k ∷ []) (λ t k. k ∷ []) (λ t k g. refl) s ks f
 
-    pub kept-taken : taken (kept K) (form s) ks ≡ taken C s ks
-    kept-taken = kept_of (λ t k. C.given k) (λ t k. C.given k) (λ t k g. refl) s ks f
+    pub kept_taken : taken (kept K) (form s) ks ≡ taken C s ks
+    kept_taken = kept_of (λ t k. C.given k) (λ t k. C.given k) (λ t k g. refl) s ks f
 
-    pub kept-lefts : lefts (kept K) (form s) ks ≡ lefts C s ks
-    kept-lefts = kept_of (λ t k. (K.call t k).left) (λ t k. (C.call t k).left) same_left s ks f
+    pub kept_lefts : lefts (kept K) (form s) ks ≡ lefts C s ks
+    kept_lefts = kept_of (λ t k. (K.call t k).left) (λ t k. (C.call t k).left) same_left s ks f
 
   -- and each call has the same number
-  pub kept-numbers : (s : State) (ks : List Input) → Fits s
+  pub kept_numbers : (s : State) (ks : List Input) → Fits s
       → map K.number (answers (kept K) (form s) ks) ≡ map C.number (answers C s ks)
   unfolding answers
-  kept-numbers s [] f = refl
-  kept-numbers s (k ∷ ks) f =
+  kept_numbers s [] f = refl
+  kept_numbers s (k ∷ ks) f =
       λ i. same_number s k f i
       ∷ (ap (λ (t : Kept). map K.number (answers (kept K) t ks)) (same_next s k f)
-      ∙ kept-numbers (following C s k) ks (stays s k f)) i
+      ∙ kept_numbers (following C s k) ks (stays s k f)) i
 
   -- ---- so they are one run too
 
   module _ (R : Runs C) (s : State) (ks : List Input) (f : Fits s) where
-    pub kept-as-one-run : through (kept K) (form s) ks ≡ form (C.after s (taken (kept K) (form s) ks))
-    kept-as-one-run = kept-through s ks f ∙ ap form (as-one-run C R s ks ∙ ap (C.after s) (sym (kept-taken s ks f)))
+    pub kept_as_one_run : through (kept K) (form s) ks ≡ form (C.after s (taken (kept K) (form s) ks))
+    kept_as_one_run = kept_through s ks f ∙ ap form (as_one_run C R s ks ∙ ap (C.after s) (sym (kept_taken s ks f)))
 
-    pub kept-left-as-one-run : lefts (kept K) (form s) ks ≡ C.out s (taken (kept K) (form s) ks)
-    kept-left-as-one-run = kept-lefts s ks f ∙ left-as-one-run C R s ks ∙ ap (C.out s) (sym (kept-taken s ks f))
+    pub kept_left_as_one_run : lefts (kept K) (form s) ks ≡ C.out s (taken (kept K) (form s) ks)
+    kept_left_as_one_run = kept_lefts s ks f ∙ left_as_one_run C R s ks ∙ ap (C.out s) (sym (kept_taken s ks f))

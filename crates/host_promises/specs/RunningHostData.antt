@@ -8,19 +8,19 @@ use base.Stored.{Coded-set, coded_ℕ, coded_list}
 use Rattle.std.specs.Borrow.{Bor}
 use Rattle.laws.specs.One.{Allows, Lifetimes, claims}
 use Rattle.host.proofs as host
-use Rattle.g722.specs.Records.{resetCoder, resetDecoder}
-use Rattle.g722.specs.Coding.{coderAfter}
-use Rattle.facts.specs.Told.{decoderRun}
-use Rattle.facts.specs.Upper.{upperSix}
-use Rattle.state.specs.Layout.{coderBytes, decoderBytes}
-use Rattle.state.specs.Reset.{resetBytes}
+use Rattle.g722.specs.Records.{reset_coder, reset_decoder}
+use Rattle.g722.specs.Coding.{coder_after}
+use Rattle.facts.specs.Told.{decoder_run}
+use Rattle.facts.specs.Upper.{upper_six}
+use Rattle.state.specs.Layout.{coder_bytes, decoder_bytes}
+use Rattle.state.specs.Reset.{reset_bytes}
 use Rattle.promises.specs.Ends.{AsSent}
 use Rattle.promises.specs.Made.{MadeFrom, last_of}
 use Rattle.host_promises.specs.Streams.{StoreInput}
 use Rattle.host_promises.specs.HostEnds.{bands}
-use Rattle.host_promises.specs.HostCarried.{HostParcel, hostLaden, hostWithData, hostWithoutData, host-six-kept, host-alike}
-use Rattle.host_promises.specs.RunningHost.{HostCode, HostDecode, hostCodes, hostDecodes, sentBy, spokenTo, cameTo, heardFrom}
-use Rattle.host_promises.specs.RunningHost.{running-host-ends-equal, running-host-unheard}
+use Rattle.host_promises.specs.HostCarried.{HostParcel, host_laden, host_with_data, host_without_data, host_six_kept, host_alike}
+use Rattle.host_promises.specs.RunningHost.{HostCode, HostDecode, host_codes, host_decodes, sent_by, spoken_to, came_to, heard_from}
+use Rattle.host_promises.specs.RunningHost.{running_host_ends_equal, running_host_unheard}
 
 -- a call of `zelcandry_put` that was made: the lifetimes and what was lent, the word that it answered and what it left; and the memory
 -- that is lent later, when its octets are decoded
@@ -42,48 +42,48 @@ unfoldable pub AllHostPut : List HostPut → Type 2
 AllHostPut [] = Unit {2}
 AllHostPut (p ∷ ps) = HostPuts p × AllHostPut ps
 
-abbrev pub hostParcel : HostPut → HostParcel
-hostParcel p = record { octets = p.octets.now; mode = p.mode; bytes = p.bytes.now; samples = p.samples }
+abbrev pub host_parcel : HostPut → HostParcel
+host_parcel p = record { octets = p.octets.now; mode = p.mode; bytes = p.bytes.now; samples = p.samples }
 
 -- its octets decoded in the mode of the data, as they were left
-abbrev pub hostAsLeft : HostPut → StoreInput
-hostAsLeft p = record { told = p.mode; octets = p.left; bytes = p.samples }
+abbrev pub host_as_left : HostPut → StoreInput
+host_as_left p = record { told = p.mode; octets = p.left; bytes = p.samples }
 
 -- ---- what was left is what the definition gives
 
-did-put : (p : HostPut) → HostPuts p → p.left ≡ hostLaden (hostParcel p)
-did-put p h = claims (Coded-set (coded_list coded_ℕ) p.left (hostLaden (hostParcel p))) h (λ e. e.left)
+did_put : (p : HostPut) → HostPuts p → p.left ≡ host_laden (host_parcel p)
+did_put p h = claims (Coded-set (coded_list coded_ℕ) p.left (host_laden (host_parcel p))) h (λ e. e.left)
 
-all_left : (ps : List HostPut) → AllHostPut ps → flat_map (λ p. p.left) ps ≡ flat_map hostLaden (map hostParcel ps)
+all_left : (ps : List HostPut) → AllHostPut ps → flat_map (λ p. p.left) ps ≡ flat_map host_laden (map host_parcel ps)
 unfolding AllHostPut flat_map
 all_left [] h = refl
-all_left (p ∷ ps) h = ap₂ ◌++◌ (did-put p h.0) (all_left ps h.1)
+all_left (p ∷ ps) h = ap₂ ◌++◌ (did_put p h.0) (all_left ps h.1)
 
-all_asked : (ps : List HostPut) → AllHostPut ps → map hostAsLeft ps ≡ map hostWithData (map hostParcel ps)
+all_asked : (ps : List HostPut) → AllHostPut ps → map host_as_left ps ≡ map host_with_data (map host_parcel ps)
 unfolding AllHostPut
 all_asked [] h = refl
 all_asked (p ∷ ps) h =
-    λ i. record { told = p.mode; octets = did-put p h.0 i; bytes = p.samples } ∷ all_asked ps h.1 i
+    λ i. record { told = p.mode; octets = did_put p h.0 i; bytes = p.samples } ∷ all_asked ps h.1 i
 
 -- THE THEOREMS. What coding calls from the reset bytes sent is cut anywhere, and data is put into each part, in any mode or none.
 
 -- Wherever the first n octets came as they were left, the bytes of both bands are equal after the n-th, whatever modes were told
-pub running-host-carried : (ks : List HostCode) (ps : List HostPut) (ds : List HostDecode)
-    → MadeFrom hostCodes (resetBytes 1) ks → AllHostPut ps → MadeFrom hostDecodes (resetBytes 2) ds
-    → sentBy ks ≡ flat_map (λ x. x.octets) (map hostParcel ps)
-    → (n : ℕ) → AsSent n (flat_map (λ p. p.left) ps) (cameTo ds)
-    → bands (coderBytes (coderAfter resetCoder (take (2 * n) (spokenTo ks))))
-    ≡ bands (decoderBytes (decoderRun resetDecoder (take n (cameTo ds))))
-running-host-carried ks ps ds m h w e n f =
-    let kept = host-six-kept (map hostParcel ps) ∙ ap (map upperSix) (sym e) in
-    running-host-ends-equal ks ds m w n
-    (ap (take n) (sym kept) ∙ ap (λ l. take n (map upperSix l)) (sym (all_left ps h)) ∙ f)
+pub running_host_carried : (ks : List HostCode) (ps : List HostPut) (ds : List HostDecode)
+    → MadeFrom host_codes (reset_bytes 1) ks → AllHostPut ps → MadeFrom host_decodes (reset_bytes 2) ds
+    → sent_by ks ≡ flat_map (λ x. x.octets) (map host_parcel ps)
+    → (n : ℕ) → AsSent n (flat_map (λ p. p.left) ps) (came_to ds)
+    → bands (coder_bytes (coder_after reset_coder (take (2 * n) (spoken_to ks))))
+    ≡ bands (decoder_bytes (decoder_run reset_decoder (take n (came_to ds))))
+running_host_carried ks ps ds m h w e n f =
+    let kept = host_six_kept (map host_parcel ps) ∙ ap (map upper_six) (sym e) in
+    running_host_ends_equal ks ds m w n
+    (ap (take n) (sym kept) ∙ ap (λ l. take n (map upper_six l)) (sym (all_left ps h)) ∙ f)
 
 -- And decoded in the mode of their data the parts give the answers, the state bytes and the sample bytes that they give without it
-pub running-host-data-unheard : (state : List ℕ) (ps : List HostPut) (ds js : List HostDecode)
-    → AllHostPut ps → MadeFrom hostDecodes state ds → MadeFrom hostDecodes state js
-    → map hostDecodes.input ds ≡ map hostAsLeft ps → map hostDecodes.input js ≡ map hostWithoutData (map hostParcel ps)
-    → (map hostDecodes.answer ds ≡ map hostDecodes.answer js) × (heardFrom ds ≡ heardFrom js)
-    × (last_of hostDecodes state ds ≡ last_of hostDecodes state js)
-running-host-data-unheard state ps ds js h m w e f =
-    running-host-unheard state ds js m w (rw (e, f, all_asked ps h) (host-alike (map hostParcel ps)))
+pub running_host_data_unheard : (state : List ℕ) (ps : List HostPut) (ds js : List HostDecode)
+    → AllHostPut ps → MadeFrom host_decodes state ds → MadeFrom host_decodes state js
+    → map host_decodes.input ds ≡ map host_as_left ps → map host_decodes.input js ≡ map host_without_data (map host_parcel ps)
+    → (map host_decodes.answer ds ≡ map host_decodes.answer js) × (heard_from ds ≡ heard_from js)
+    × (last_of host_decodes state ds ≡ last_of host_decodes state js)
+running_host_data_unheard state ps ds js h m w e f =
+    running_host_unheard state ds js m w (rw (e, f, all_asked ps h) (host_alike (map host_parcel ps)))

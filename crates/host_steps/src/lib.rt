@@ -3,7 +3,7 @@
 ghost use Rattle.std.specs.Prelude.{◌≡◌, ◌<◌, ◌^◌};
 ghost use Rattle.laws.specs.Outcome.{Does};
 ghost use Rattle.host.specs.Answer.{packed};
-ghost use Rattle.host_steps.specs.Calls.{hearBytes, joinBytes};
+ghost use Rattle.host_steps.specs.Calls.{hear_bytes, join_bytes};
 
 use pcm::{hear_chunk, join_chunk};
 use state::{read_decoder, write_decoder};
@@ -25,7 +25,7 @@ pub extern "C" fn zelcandry_hear(
     low: &mut [u8],
     high: &mut [u8],
 ) -> u64
-    ensures { Does (hearBytes state.old mode octets.now low.old high.old) result
+    ensures { Does (hear_bytes state.old mode octets.now low.old high.old) result
         (state.new, (low.new, high.new)) }
 {
     let heard = hear_chunk(read_decoder(state), mode, octets, low, high);
@@ -44,7 +44,7 @@ pub extern "C" fn zelcandry_join(
     high: &[u8],
     samples: &mut [u8],
 ) -> u64
-    ensures { Does (joinBytes state.old low.now high.now samples.old) result
+    ensures { Does (join_bytes state.old low.now high.now samples.old) result
         (state.new, samples.new) }
 {
     let joined = join_chunk(read_decoder(state), low, high, samples);

@@ -5,17 +5,17 @@ use Rattle.std.proofs.Math.Path.{sym, ap}
 use Rattle.std.proofs.Common.{◌∙◌, add-zero, div-add-mod', arith}
 use Rattle.std.proofs.Math.IntN.{pos}
 use Rattle.std.specs.Int.Signed.{mag, lt_z, non_neg, shr_z}
-use Rattle.laws.specs.Clamp.{clamp, clamp-low, clamp-mid, clamp-high, clamp-within}
-use Rattle.laws.specs.Order.{zarith, by-test}
-use Rattle.laws.specs.Size.{abs-mul, abs_mag}
+use Rattle.laws.specs.Clamp.{clamp, clamp_low, clamp_mid, clamp_high, clamp_within}
+use Rattle.laws.specs.Order.{zarith, by_test}
+use Rattle.laws.specs.Size.{abs_mul, abs_mag}
 use Rattle.g722.specs.Arithmetic.{neg, stop, add, mul}
 use Rattle.g722.specs.Quantise.{logsc, scale_at, scalel, scaleh}
 use Rattle.g722.specs.declared.Factors.{Factors}
-use Rattle.idle.specs.Recursive.{stop-id, shr-abs}
+use Rattle.idle.specs.Recursive.{stop_id, shr_abs}
 use Rattle.idle.specs.declared.Scales.{Scales}
 
-unfoldable pub factorsOf : Scales → Factors
-factorsOf f = record { log = f.log; scale = f.scale }
+unfoldable pub factors_of : Scales → Factors
+factors_of f = record { log = f.log; scale = f.scale }
 
 -- both are numbers of 16 bits
 pub record Held (f : Scales) : Type 0 where
@@ -34,15 +34,15 @@ weighed high w f =
 -- ---- the log factor
 
 -- a limit makes the stop before it idle
-limit-stop : (hi z : ℤ) → pos 0 ≤ℤ hi → hi ≤ℤ pos 32766 → clamp (pos 0) hi (stop z) ≡ clamp (pos 0) hi z
-limit-stop hi z l h =
-    by-test (lt_z z (neg 32768))
-    (λ e. rw (clamp-low (neg 32768) (pos 32767) z e, clamp-low (pos 0) hi (neg 32768) (omega zarith))
-    (sym (clamp-low (pos 0) hi z (omega zarith))))
-    (λ e. by-test (lt_z (pos 32767) z)
-    (λ f. rw (clamp-high (neg 32768) (pos 32767) z e f, clamp-high (pos 0) hi (pos 32767) (omega zarith) (omega zarith))
-    (sym (clamp-high (pos 0) hi z (omega zarith) (omega zarith))))
-    (λ f. rw (clamp-mid (neg 32768) (pos 32767) z e f)))
+limit_stop : (hi z : ℤ) → pos 0 ≤ℤ hi → hi ≤ℤ pos 32766 → clamp (pos 0) hi (stop z) ≡ clamp (pos 0) hi z
+limit_stop hi z l h =
+    by_test (lt_z z (neg 32768))
+    (λ e. rw (clamp_low (neg 32768) (pos 32767) z e, clamp_low (pos 0) hi (neg 32768) (omega zarith))
+    (sym (clamp_low (pos 0) hi z (omega zarith))))
+    (λ e. by_test (lt_z (pos 32767) z)
+    (λ f. rw (clamp_high (neg 32768) (pos 32767) z e f, clamp_high (pos 0) hi (pos 32767) (omega zarith) (omega zarith))
+    (sym (clamp_high (pos 0) hi z (omega zarith) (omega zarith))))
+    (λ f. rw (clamp_mid (neg 32768) (pos 32767) z e f)))
 
 top_in : (high : Bool) → (pos 0 ≤ℤ top high) × (top high ≤ℤ pos 32766)
 top_in true = (omega zarith, omega zarith)
@@ -50,19 +50,19 @@ top_in false = (omega zarith, omega zarith)
 
 -- the product with 32512, and after its shift
 module _ (nb : ℤ) (h : mag nb < 2 ^ 15) where
-  pub product-abs : nat_abs (nb *ℤ pos 32512) ≤ 32512 * 32768
-  product-abs = omega (arith, abs-mul nb (pos 32512), abs_mag nb)
+  pub product_abs : nat_abs (nb *ℤ pos 32512) ≤ 32512 * 32768
+  product_abs = omega (arith, abs_mul nb (pos 32512), abs_mag nb)
 
-  pub kept-abs : nat_abs (shr_z (nb *ℤ pos 32512) 32768) ≤ 32512
-  kept-abs = shr-abs (nb *ℤ pos 32512) 32512 product-abs
+  pub kept_abs : nat_abs (shr_z (nb *ℤ pos 32512) 32768) ≤ 32512
+  kept_abs = shr_abs (nb *ℤ pos 32512) 32512 product_abs
 
   pub log_is : (high : Bool) (w : ℤ) → clamp (pos 0) (top high) (shr_z (nb *ℤ pos 32512) 32768 +ℤ w) ≡ logsc (top high) w nb
   unfolding logsc add mul
   log_is high w =
       let m = shr_z (nb *ℤ pos 32512) 32768 in
-      let e : mul nb (pos 32512) ≡ m = stop-id m (omega (arith, kept-abs)) in
+      let e : mul nb (pos 32512) ≡ m = stop_id m (omega (arith, kept_abs)) in
       sym (
-      limit-stop (top high) (mul nb (pos 32512) +ℤ w) (top_in high).0 (top_in high).1
+      limit_stop (top high) (mul nb (pos 32512) +ℤ w) (top_in high).0 (top_in high).1
       ∙ ap (λ (p : ℤ). clamp (pos 0) (top high) (p +ℤ w)) e
       )
 
@@ -83,9 +83,9 @@ address false (pos n) l h =
     record { positive = tt; size = omega arith; place = omega (arith, div-add-mod' n 64); scale = refl }
 address high (negsuc n) l h = absurd l.le
 
-pub log-address : (high : Bool) (w nb : ℤ) → Address high (logsc (top high) w nb)
+pub log_address : (high : Bool) (w nb : ℤ) → Address high (logsc (top high) w nb)
 unfolding logsc
-log-address high w nb =
+log_address high w nb =
     let z = add (mul nb (pos 32512)) w in
-    let d = clamp-within (pos 0) (top high) z (top_in high).0 in
+    let d = clamp_within (pos 0) (top high) z (top_in high).0 in
     address high (clamp (pos 0) (top high) z) d.0 d.1

@@ -12,7 +12,7 @@ use borrow.Author.Tests.{le-ltb}
 use mir.Syntax.{w16}
 use mir.Val.{SFits, to_z, of_z}
 use mir.Facts.{to_z-of_z}
-use Rattle.laws.specs.Size.{fits-abs, abs-mul, shr-fits}
+use Rattle.laws.specs.Size.{fits_abs, abs_mul, shr_fits}
 use Rattle.g722.specs.Arithmetic.{negative}
 
 small : (n : ℕ) → n < 2 ^ 15 → n / 32768 ≡ 0
@@ -23,19 +23,19 @@ shifted (pos n) h = rw (small n h, le-ltb n 0 (omega arith))
 shifted (negsuc n) h = ap negsuc (small n h)
 
 pub shift : (x : ℤ) → SFits w16 x → to_z w16 (of_z w16 (shr_z x 32768)) ≡ cond (negative x) (negsuc 0) (pos 0)
-shift x f = to_z-of_z (shr-fits 32768 f) ∙ shifted x f.sfits
+shift x f = to_z-of_z (shr_fits 32768 f) ∙ shifted x f.sfits
 
-pub twice-fits : (t : Bool) → SFits w16 (pos 2 *ℤ cond t (negsuc 0) (pos 0))
-twice-fits true = record { sfits = lit< tt }
-twice-fits false = record { sfits = lit< tt }
+pub twice_fits : (t : Bool) → SFits w16 (pos 2 *ℤ cond t (negsuc 0) (pos 0))
+twice_fits true = record { sfits = lit< tt }
+twice_fits false = record { sfits = lit< tt }
 
-pub side-fits : (t : Bool) → SFits w16 (pos 1 +ℤ (pos 2 *ℤ cond t (negsuc 0) (pos 0)))
-side-fits true = record { sfits = lit< tt }
-side-fits false = record { sfits = lit< tt }
+pub side_fits : (t : Bool) → SFits w16 (pos 1 +ℤ (pos 2 *ℤ cond t (negsuc 0) (pos 0)))
+side_fits true = record { sfits = lit< tt }
+side_fits false = record { sfits = lit< tt }
 
-pub side-is : (t : Bool) → pos 1 +ℤ (pos 2 *ℤ cond t (negsuc 0) (pos 0)) ≡ cond t (negsuc 0) (pos 1)
-side-is true = refl
-side-is false = refl
+pub side_is : (t : Bool) → pos 1 +ℤ (pos 2 *ℤ cond t (negsuc 0) (pos 0)) ≡ cond t (negsuc 0) (pos 1)
+side_is true = refl
+side_is false = refl
 
 one : (g : ℤ) → pos 1 *ℤ g ≡ g
 one (pos n) = let e : 1 * n ≡ n = omega arith in ap pos e
@@ -49,6 +49,6 @@ pub sided : (t : Bool) (g : ℤ) → cond t (negsuc 0) (pos 1) *ℤ g ≡ cond t
 sided true g = less g
 sided false g = one g
 
-pub sided-fits : (t : Bool) (g : ℤ) → nat_abs g ≤ 128 → SFits w16 (cond t (negsuc 0) (pos 1) *ℤ g)
-sided-fits true g h = fits-abs (omega (arith, abs-mul (negsuc 0) g))
-sided-fits false g h = fits-abs (omega (arith, abs-mul (pos 1) g))
+pub sided_fits : (t : Bool) (g : ℤ) → nat_abs g ≤ 128 → SFits w16 (cond t (negsuc 0) (pos 1) *ℤ g)
+sided_fits true g h = fits_abs (omega (arith, abs_mul (negsuc 0) g))
+sided_fits false g h = fits_abs (omega (arith, abs_mul (pos 1) g))

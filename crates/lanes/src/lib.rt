@@ -5,7 +5,7 @@ ghost use Rattle.std.specs.Int.Signed.{lt_z};
 ghost use Rattle.laws.specs.Order.{up};
 ghost use Rattle.g722.specs.Arithmetic.{neg, negative, add, mul};
 ghost use Rattle.g722.specs.Band.{upzero};
-ghost use Rattle.idle.specs.Plain.{raw, signedGain};
+ghost use Rattle.idle.specs.Plain.{raw, signed_gain};
 ghost use Rattle.lanes.specs.Sum.{plain_of};
 
 use arith::{add, mul, wide};
@@ -72,7 +72,7 @@ fn side(x: i16) -> i16
 
 // The gain of UPZERO with the sign of the difference.
 fn signed_gain(d: i16) -> i16
-    ensures { result ≡ signedGain d }
+    ensures { result ≡ signed_gain d }
 {
     if d < 0 {
         return -128;

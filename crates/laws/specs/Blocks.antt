@@ -11,16 +11,16 @@ use Rattle.laws.specs.Parts.{behind as put-behind}
 
 module _ {A : Type 0} {a e : ℕ} (h : a ≤ e) (xs : List A) where
   -- the first e are the first a, and behind them those from a to e
-  pub front-more : take e xs ≡ take a xs ++ take (e - a) (drop a xs)
-  front-more = let n : e ≡ a + (e - a) = omega arith in ap (λ (k : ℕ). take k xs) n ∙ take-add a (e - a) xs
+  pub front_more : take e xs ≡ take a xs ++ take (e - a) (drop a xs)
+  front_more = let n : e ≡ a + (e - a) = omega arith in ap (λ (k : ℕ). take k xs) n ∙ take-add a (e - a) xs
 
   -- and so they are where those from a to e are written
   module _ (ys : List A) (same : length ys ≡ length (take (e - a) (drop a xs))) where
-    pub part-long : length (put_mid a (e - a) xs ys) ≡ length xs
-    part-long = same_len_mid a (e - a) xs ys same
+    pub part_long : length (put_mid a (e - a) xs ys) ≡ length xs
+    part_long = same_len_mid a (e - a) xs ys same
 
-    pub part-put : e ≤ length xs → take e (put_mid a (e - a) xs ys) ≡ take a xs ++ ys
-    part-put room = put-behind a e xs ys (take a xs) h room (same ∙ mid_len a e xs room) refl
+    pub part_put : e ≤ length xs → take e (put_mid a (e - a) xs ys) ≡ take a xs ++ ys
+    part_put room = put-behind a e xs ys (take a xs) h room (same ∙ mid_len a e xs room) refl
 
 -- ---- the run
 

@@ -2,43 +2,43 @@
 -- Assumes nothing.
 use Rattle.std.specs.Prelude.{◌≡◌, true, false, cond, ℤ, ◌≤ℤ◌}
 use Rattle.std.specs.Int.Signed.{lt_z}
-use Rattle.laws.specs.Order.{zarith, by-test}
+use Rattle.laws.specs.Order.{zarith, by_test}
 
 unfoldable pub clamp : ℤ → ℤ → ℤ → ℤ
 clamp lo hi z = cond (lt_z z lo) lo (cond (lt_z hi z) hi z)
 
 module _ (lo hi z : ℤ) where
   -- by the tests
-  pub clamp-low : lt_z z lo ≡ true → clamp lo hi z ≡ lo
+  pub clamp_low : lt_z z lo ≡ true → clamp lo hi z ≡ lo
   unfolding clamp
-  clamp-low e = rw e
+  clamp_low e = rw e
 
-  pub clamp-high : lt_z z lo ≡ false → lt_z hi z ≡ true → clamp lo hi z ≡ hi
+  pub clamp_high : lt_z z lo ≡ false → lt_z hi z ≡ true → clamp lo hi z ≡ hi
   unfolding clamp
-  clamp-high e f = rw (e, f)
+  clamp_high e f = rw (e, f)
 
-  pub clamp-mid : lt_z z lo ≡ false → lt_z hi z ≡ false → clamp lo hi z ≡ z
+  pub clamp_mid : lt_z z lo ≡ false → lt_z hi z ≡ false → clamp lo hi z ≡ z
   unfolding clamp
-  clamp-mid e f = rw (e, f)
+  clamp_mid e f = rw (e, f)
 
   -- what is within stays as it is
-  pub clamp-id : lo ≤ℤ z → z ≤ℤ hi → clamp lo hi z ≡ z
-  clamp-id h k = clamp-mid (omega zarith) (omega zarith)
+  pub clamp_id : lo ≤ℤ z → z ≤ℤ hi → clamp lo hi z ≡ z
+  clamp_id h k = clamp_mid (omega zarith) (omega zarith)
 
   -- what comes out is within
-  pub clamp-within : lo ≤ℤ hi → (lo ≤ℤ clamp lo hi z) × (clamp lo hi z ≤ℤ hi)
-  clamp-within h =
-      by-test (lt_z z lo)
-      (λ e. rw (clamp-low e) (omega zarith, h))
-      (λ e. by-test (lt_z hi z) (λ f. rw (clamp-high e f) (h, omega zarith)) (λ f. rw (clamp-mid e f) (omega zarith, omega zarith)))
+  pub clamp_within : lo ≤ℤ hi → (lo ≤ℤ clamp lo hi z) × (clamp lo hi z ≤ℤ hi)
+  clamp_within h =
+      by_test (lt_z z lo)
+      (λ e. rw (clamp_low e) (omega zarith, h))
+      (λ e. by_test (lt_z hi z) (λ f. rw (clamp_high e f) (h, omega zarith)) (λ f. rw (clamp_mid e f) (omega zarith, omega zarith)))
 
 -- it keeps the order
-pub clamp-mono : (lo hi : ℤ) → lo ≤ℤ hi → (x y : ℤ) → x ≤ℤ y → clamp lo hi x ≤ℤ clamp lo hi y
-clamp-mono lo hi h x y l =
-    by-test (lt_z x lo)
-    (λ e. rw (clamp-low lo hi x e) (clamp-within lo hi y h).0)
-    (λ e. by-test (lt_z hi x)
-    (λ f. rw (clamp-high lo hi x e f, clamp-high lo hi y (omega zarith) (omega zarith)) (omega zarith))
-    (λ f. rw (clamp-mid lo hi x e f) (by-test (lt_z hi y)
-    (λ g. rw (clamp-high lo hi y (omega zarith) g) (omega zarith))
-    (λ g. rw (clamp-mid lo hi y (omega zarith) g) l))))
+pub clamp_mono : (lo hi : ℤ) → lo ≤ℤ hi → (x y : ℤ) → x ≤ℤ y → clamp lo hi x ≤ℤ clamp lo hi y
+clamp_mono lo hi h x y l =
+    by_test (lt_z x lo)
+    (λ e. rw (clamp_low lo hi x e) (clamp_within lo hi y h).0)
+    (λ e. by_test (lt_z hi x)
+    (λ f. rw (clamp_high lo hi x e f, clamp_high lo hi y (omega zarith) (omega zarith)) (omega zarith))
+    (λ f. rw (clamp_mid lo hi x e f) (by_test (lt_z hi y)
+    (λ g. rw (clamp_high lo hi y (omega zarith) g) (omega zarith))
+    (λ g. rw (clamp_mid lo hi y (omega zarith) g) l))))

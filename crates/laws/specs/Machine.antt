@@ -5,7 +5,7 @@ use Rattle.std.proofs.Math.Path.{sym, ap}
 use Rattle.std.proofs.Common.{◌∙◌, drop_of_length-le}
 use mathlib.Core.List.{List, [], ◌∷◌, ◌++◌}
 use Rattle.std.proofs.Math.ListN.{take, length-set}
-use Rattle.laws.specs.Turns.{drop-one, put_one, put_all}
+use Rattle.laws.specs.Turns.{drop_one, put_one, put_all}
 
 unfoldable pub outs : {S A B : Type 0} → (S → A → B) → (S → A → S) → S → List A → List B
 outs out next s [] = []
@@ -34,20 +34,20 @@ module _ {S A B : Type 0} (out : S → A → B) (next : S → A → S) (s₀ : S
           long = length-set o i w ∙ f.long;
           state =
               ap (λ (t : S). last next t (drop (i + 1) xs)) n≡
-              ∙ sym (ap (last next s) (drop-one xs i d h))
+              ∙ sym (ap (last next s) (drop_one xs i d h))
               ∙ f.state;
           given =
               put_one o _ i w k
               ∙ (λ j. take i o ++ w≡ j ∷ outs out next (n≡ j) (drop (i + 1) xs))
-              ∙ ap (λ (l : List B). take i o ++ l) (sym (ap (outs out next s) (drop-one xs i d h)))
+              ∙ ap (λ (l : List B). take i o ++ l) (sym (ap (outs out next s) (drop_one xs i d h)))
               ∙ f.given;
         }
 
     module _ (h : length xs ≤ i) where
-      pub state-ended : s ≡ last next s₀ xs
+      pub state_ended : s ≡ last next s₀ xs
       unfolding last
-      state-ended = sym (ap (last next s) (drop_of_length-le xs h)) ∙ f.state
+      state_ended = sym (ap (last next s) (drop_of_length-le xs h)) ∙ f.state
 
-      pub given-ended : length o ≤ i → o ≡ outs out next s₀ xs
+      pub given_ended : length o ≤ i → o ≡ outs out next s₀ xs
       unfolding outs
-      given-ended k = sym (put_all o _ i k (ap (outs out next s) (drop_of_length-le xs h))) ∙ f.given
+      given_ended k = sym (put_all o _ i k (ap (outs out next s) (drop_of_length-le xs h))) ∙ f.given

@@ -14,8 +14,8 @@ behind a e xs ys p h k l f =
     rw (f, ← append_assoc) (take_at (p ++ ys) _ e len)
 
 -- the last two
-pub last-two : {A : Type 0} (n : ℕ) (xs p : List A) (x y : A) → length xs ≡ n + 2 → take n xs ≡ p
+pub last_two : {A : Type 0} (n : ℕ) (xs p : List A) (x y : A) → length xs ≡ n + 2 → take n xs ≡ p
     → set (set xs n x) (suc n) y ≡ p ++ (x ∷ y ∷ [])
-last-two n xs p x y l f =
+last_two n xs p x y l f =
     let h : length xs ≤ n + 2 = omega arith in
     sets-eq (x ∷ y ∷ []) xs n (omega arith) ∙ rw (f, drop_of_length-le xs h, append-nil)

@@ -8,8 +8,8 @@ Rising R (x ∷ []) = Unit {0}
 Rising R (x ∷ y ∷ rest) = R x y × Rising R (y ∷ rest)
 
 -- a function that keeps the order keeps a list rising
-pub rising-map : {A B : Type 0} (R : A → A → Type 0) (S : B → B → Type 0) (f : A → B)
+pub rising_map : {A B : Type 0} (R : A → A → Type 0) (S : B → B → Type 0) (f : A → B)
     → ((x y : A) → R x y → S (f x) (f y)) → (xs : List A) → Rising R xs → Rising S (map f xs)
-rising-map R S f keeps [] r = tt
-rising-map R S f keeps (x ∷ []) r = tt
-rising-map R S f keeps (x ∷ y ∷ rest) r = (keeps x y r.0, rising-map R S f keeps (y ∷ rest) r.1)
+rising_map R S f keeps [] r = tt
+rising_map R S f keeps (x ∷ []) r = tt
+rising_map R S f keeps (x ∷ y ∷ rest) r = (keeps x y r.0, rising_map R S f keeps (y ∷ rest) r.1)

@@ -12,13 +12,13 @@ use lib.Signed.{lt_z, mag}
 use mathlib.Core.Bool.{true, false}
 use borrow.Author.Tests.{ltb-true}
 use Rattle.laws.specs.Order.{no}
-use Rattle.laws.specs.Turns.{drop-one}
+use Rattle.laws.specs.Turns.{drop_one}
 use Rattle.lines.specs.Decimal.{decimal, signed}
 use Rattle.lines.specs.Lines.{line_of, held, Sound, Ready, Wrote}
 use Rattle.lines.specs.declared.Line.{Line}
 
-pub held-length : {line : Line} → Sound line → length (held line) + line.at ≡ 160
-held-length {line} s = rw length-drop (omega (arith, s.size, s.inside))
+pub held_length : {line : Line} → Sound line → length (held line) + line.at ≡ 160
+held_length {line} s = rw length-drop (omega (arith, s.size, s.inside))
 
 -- a byte
 pub put_byte : (line : Line) (b : ℕ) → Ready 1 line → Wrote 1 (b ∷ []) line
@@ -36,7 +36,7 @@ put_byte line b h =
         inside = omega (arith, s.inside);
         blank = λ j k. get_or-set_other xs i j b 0 (λ e. omega arith) ∙ s.blank j (omega arith);
       };
-      text = drop-one (set xs i b) i 0 in-set ∙ (λ j. get_or-set_same xs i b 0 in-it j ∷ drop-set-lt (i + 1) xs i b (omega arith) j)
+      text = drop_one (set xs i b) i 0 in-set ∙ (λ j. get_or-set_same xs i b 0 in-it j ∷ drop-set-lt (i + 1) xs i b (omega arith) j)
           ∙ ap (λ (n : ℕ). b ∷ drop n xs) next;
       room = omega arith;
     }
@@ -52,13 +52,13 @@ module _ (w : List ℕ) {line r : Line} (s : Sound line) (t : Sound r) where
   pub left : (x : List ℕ) → x ++ held r ≡ w ++ held line → length w ≤ line.at → length x ≤ r.at
   left x e h =
       let l = simp length-append at (ap length e) in
-      omega (arith, held-length s, held-length t)
+      omega (arith, held_length s, held_length t)
 
   -- and where nothing is left the whole is written
   pub ran : {k : ℕ} → held r ≡ w ++ held line → length w ≤ k → Wrote k w line r
   ran {k} e h =
       let l = simp length-append at (ap length e) in
-      record { sound = t; text = e; room = omega (arith, held-length s, held-length t) }
+      record { sound = t; text = e; room = omega (arith, held_length s, held_length t) }
 
 -- one run after another
 pub both : {j k : ℕ} {v w : List ℕ} {line mid r : Line} → Wrote j v line mid → Wrote k w mid r → Wrote (j + k) (w ++ v) line r
@@ -71,13 +71,13 @@ both {j} {k} {v} {w} {line} {mid} {r} p q =
 
 -- ---- the first line and the last
 
-pub empty-line : ◌≡◌ {A = Line} (record { bytes = replicate 160 0; at = 160 }) (line_of [])
+pub empty_line : ◌≡◌ {A = Line} (record { bytes = replicate 160 0; at = 160 }) (line_of [])
 unfolding line_of
-empty-line = ap (λ (l : List ℕ). record { bytes = l; at = 160 }) (sym (append-nil (replicate 160 0)))
+empty_line = ap (λ (l : List ℕ). record { bytes = l; at = 160 }) (sym (append-nil (replicate 160 0)))
 
-pub empty-ready : {line : Line} → line ≡ line_of [] → Ready 160 line
+pub empty_ready : {line : Line} → line ≡ line_of [] → Ready 160 line
 unfolding line_of
-empty-ready {line} e =
+empty_ready {line} e =
     rw e (record {
       sound = record {
         size = refl;
@@ -90,7 +90,7 @@ empty-ready {line} e =
 shut : {line : Line} → Sound line → line ≡ line_of (held line)
 unfolding line_of
 shut {line} s =
-    let at : line.at ≡ 160 - length (held line) = omega (arith, held-length s) in
+    let at : line.at ≡ 160 - length (held line) = omega (arith, held_length s) in
     let size = length-take-le line.at line.bytes (omega (arith, s.size, s.inside)) in
     let front : take line.at line.bytes ≡ replicate line.at 0 =
     ext_get_or 0 _ _ (size ∙ sym (length-replicate line.at 0))
@@ -99,12 +99,12 @@ shut {line} s =
     ∙ ap (λ (t : List ℕ). t ++ held line) (front ∙ ap (λ (n : ℕ). replicate n 0) at) in
     λ i. record { bytes = bytes i; at = at i }
 
-none-held : (w : List ℕ) → w ++ held (line_of []) ≡ w
+none_held : (w : List ℕ) → w ++ held (line_of []) ≡ w
 unfolding line_of
-none-held w = append-nil w
+none_held w = append-nil w
 
 pub finished : {k : ℕ} {w : List ℕ} {line r : Line} → line ≡ line_of [] → Wrote k w line r → r ≡ line_of w
-finished {k} {w} {line} {r} e h = shut h.sound ∙ ap line_of (h.text ∙ ap (λ (l : Line). w ++ held l) e ∙ none-held w)
+finished {k} {w} {line} {r} e h = shut h.sound ∙ ap line_of (h.text ∙ ap (λ (l : Line). w ++ held l) e ∙ none_held w)
 
 -- ---- a signed number
 

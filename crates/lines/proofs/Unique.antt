@@ -3,11 +3,11 @@ use mathlib.Core.Path.{refl}
 use Rattle.laws.specs.One.{LeavesOne, equation}
 use Rattle.lines.proofs as lines
 
-pub block-line : LeavesOne lines.block_line.ended (λ M. lines.block_line.clauses) lines.block_line.Symbol.routine
-block-line = equation (λ κs a l m. refl) (λ M. lines.block_line.Met.met)
+pub block_line : LeavesOne lines.block_line.ended (λ M. lines.block_line.clauses) lines.block_line.Symbol.routine
+block_line = equation (λ κs a l m. refl) (λ M. lines.block_line.Met.met)
 
-pub refused-line : LeavesOne lines.refused_line.ended (λ M. lines.refused_line.clauses) lines.refused_line.Symbol.routine
-refused-line = equation (λ κs a l m. refl) (λ M. lines.refused_line.Met.met)
+pub refused_line : LeavesOne lines.refused_line.ended (λ M. lines.refused_line.clauses) lines.refused_line.Symbol.routine
+refused_line = equation (λ κs a l m. refl) (λ M. lines.refused_line.Met.met)
 
-pub overload-line : LeavesOne lines.overload_line.ended (λ M. lines.overload_line.clauses) lines.overload_line.Symbol.routine
-overload-line = equation (λ κs a l m. refl) (λ M. lines.overload_line.Met.met)
+pub overload_line : LeavesOne lines.overload_line.ended (λ M. lines.overload_line.clauses) lines.overload_line.Symbol.routine
+overload_line = equation (λ κs a l m. refl) (λ M. lines.overload_line.Met.met)

@@ -2,7 +2,7 @@
 -- Assumes nothing.
 use Rattle.std.specs.Prelude.{◌≡◌, refl, cond, List, [], ◌∷◌, ◌++◌, ℕ, zero, suc, ◌+◌, ◌/◌, ◌%◌, ◌^◌, ◌≤◌, ◌<◌, ltb, ℤ, pos, negsuc, length}
 use Rattle.std.proofs.Common.{ap, ◌∙◌, arith, length-append, lt-ltb, le-ltb, ltb-true, ltb-false}
-use Rattle.laws.specs.Order.{by-test}
+use Rattle.laws.specs.Order.{by_test}
 
 -- the digits of n: those of n / 10 and then n % 10. So many turns are enough where n is not above them
 unfoldable pub spelled : ℕ → ℕ → List ℕ
@@ -29,32 +29,32 @@ unfolding spelled
 enough zero b n h k = rw (one b n (omega arith))
 enough (suc a) zero n h k = one (suc a) n (omega arith)
 enough (suc a) (suc b) n h k =
-    by-test (ltb n 10) (λ e. rw e)
+    by_test (ltb n 10) (λ e. rw e)
     (λ e. let l = ltb-false n 10 e in rw (e, enough a b (n / 10) (omega arith) (omega arith)))
 
-pub decimal-one : (n : ℕ) → n < 10 → decimal n ≡ (48 + n) ∷ []
+pub decimal_one : (n : ℕ) → n < 10 → decimal n ≡ (48 + n) ∷ []
 unfolding decimal
-decimal-one n h = one n n h
+decimal_one n h = one n n h
 
 more : (m n : ℕ) → n ≡ suc m → 10 ≤ n → spelled n n ≡ spelled (n / 10) (n / 10) ++ ((48 + n % 10) ∷ [])
 unfolding spelled
 more m n e h =
     ap (λ (k : ℕ). spelled k n) e ∙ rw (le-ltb n 10 h, enough m (n / 10) (n / 10) (omega arith) (omega arith))
 
-pub decimal-more : (n : ℕ) → 10 ≤ n → decimal n ≡ decimal (n / 10) ++ ((48 + n % 10) ∷ [])
+pub decimal_more : (n : ℕ) → 10 ≤ n → decimal n ≡ decimal (n / 10) ++ ((48 + n % 10) ∷ [])
 unfolding decimal
-decimal-more zero h = absurd (omega arith)
-decimal-more (suc m) h = more m (suc m) refl h
+decimal_more zero h = absurd (omega arith)
+decimal_more (suc m) h = more m (suc m) refl h
 
 -- ---- how many digits
 
-pub decimal-most : (k n : ℕ) → n < 10 ^ suc k → length (decimal n) ≤ suc k
-decimal-most zero n h = rw (decimal-one n (omega arith)) (omega arith)
-decimal-most (suc k) n h =
-    by-test (ltb n 10) (λ e. rw (decimal-one n (ltb-true n 10 e)) (omega arith))
-    (λ e. rw (decimal-more n (ltb-false n 10 e), length-append) (omega (arith, decimal-most k (n / 10) (omega arith))))
+pub decimal_most : (k n : ℕ) → n < 10 ^ suc k → length (decimal n) ≤ suc k
+decimal_most zero n h = rw (decimal_one n (omega arith)) (omega arith)
+decimal_most (suc k) n h =
+    by_test (ltb n 10) (λ e. rw (decimal_one n (ltb-true n 10 e)) (omega arith))
+    (λ e. rw (decimal_more n (ltb-false n 10 e), length-append) (omega (arith, decimal_most k (n / 10) (omega arith))))
 
-pub decimal-some : (n : ℕ) → 1 ≤ length (decimal n)
-decimal-some n =
-    by-test (ltb n 10) (λ e. rw (decimal-one n (ltb-true n 10 e)) (omega arith))
-    (λ e. rw (decimal-more n (ltb-false n 10 e), length-append) (omega arith))
+pub decimal_some : (n : ℕ) → 1 ≤ length (decimal n)
+decimal_some n =
+    by_test (ltb n 10) (λ e. rw (decimal_one n (ltb-true n 10 e)) (omega arith))
+    (λ e. rw (decimal_more n (ltb-false n 10 e), length-append) (omega arith))

@@ -12,13 +12,13 @@ block_line take block mode count first last limited =
     ++ (32 ∷ signed first ++ (32 ∷ signed last ++ (32 ∷ decimal limited ++ (10 ∷ [])))))))
 
 -- "refused number blocks", alike
-unfoldable pub refusedLine : ℕ → ℕ → List ℕ
-refusedLine number blocks =
+unfoldable pub refused_line : ℕ → ℕ → List ℕ
+refused_line number blocks =
     ascii "refused" ++ (32 ∷ decimal number ++ (32 ∷ decimal blocks ++ (10 ∷ [])))
 
 -- "overload: limited sums limited"
-unfoldable pub overloadLine : ℕ → List ℕ
-overloadLine limited = ascii "overload:" ++ (32 ∷ decimal limited ++ (ascii " sums limited" ++ (10 ∷ [])))
+unfoldable pub overload_line : ℕ → List ℕ
+overload_line limited = ascii "overload:" ++ (32 ∷ decimal limited ++ (ascii " sums limited" ++ (10 ∷ [])))
 
 -- a line held at the end of 160 bytes, behind zeros
 unfoldable pub line_of : List ℕ → Line

@@ -1,7 +1,7 @@
 // The lines of a listing, as bytes. A line is written from its end to its start, into the end of 160 bytes.
 ghost use Rattle.std.specs.Prelude.{◌≡◌, [], ◌∷◌, ◌+◌, ◌<◌, length};
 ghost use Rattle.lines.specs.Decimal.{decimal, signed};
-ghost use Rattle.lines.specs.Lines.{line_of, Ready, Wrote, block_line, refusedLine, overloadLine};
+ghost use Rattle.lines.specs.Lines.{line_of, Ready, Wrote, block_line, refused_line, overload_line};
 
 use arith::size;
 
@@ -120,7 +120,7 @@ pub fn block_line(
 
 // The line of a refusal after so many blocks.
 pub fn refused_line(number: u8, blocks: u64) -> Line
-    ensures { result ≡ line_of (refusedLine number blocks) }
+    ensures { result ≡ line_of (refused_line number blocks) }
 {
     let end = put(empty(), b'\n');
     let numbers = field(field(end, blocks), number as u64);
@@ -129,7 +129,7 @@ pub fn refused_line(number: u8, blocks: u64) -> Line
 
 // The line of an overload.
 pub fn overload_line(limited: u64) -> Line
-    ensures { result ≡ line_of (overloadLine limited) }
+    ensures { result ≡ line_of (overload_line limited) }
 {
     let end = word(put(empty(), b'\n'), b" sums limited");
     word(field(end, limited), b"overload:")

@@ -7,15 +7,15 @@ use native.Mathlib.Omega.{arith}
 use lib.IntN.{ℤ, pos, ◌*ℤ◌}
 use lib.ListN.{length, take, drop, length-append}
 use lib.Seq.{take_all, get_or-take}
-use Rattle.laws.specs.Zipped.{zip_length, zip-at, zip-append}
+use Rattle.laws.specs.Zipped.{zip_length, zip_at, zip_append}
 use Rattle.laws.specs.Outcome.{Does}
 use Rattle.g722.specs.Arithmetic.{shr, add, sub, limit, overloads}
 use Rattle.g722.specs.Mirror.{coefficient}
-use Rattle.g722.specs.Steps.{pairsNext, pairsAfter}
+use Rattle.g722.specs.Steps.{pairs_next, pairs_after}
 use Rattle.g722.specs.declared.Pairs.{Pairs}
-use Rattle.mirror.specs.Rows.{nth, Crossed, in_turn, tapsAt, sum_same, first_at, secondAt, rowsJoined}
-use Rattle.mirror.specs.Block.{stoppedXd, stoppedXs, joinedStopped, joinRun}
-use Rattle.mirror.proofs.Windows.{Left, none_left, place, left-next}
+use Rattle.mirror.specs.Rows.{nth, Crossed, in_turn, taps_at, sum_same, first_at, second_at, rows_joined}
+use Rattle.mirror.specs.Block.{stopped_xd, stopped_xs, joined_stopped, join_run}
+use Rattle.mirror.proofs.Windows.{Left, none_left, place, left_next}
 
 all : (f : ℤ → ℤ → ℤ) (p q : List ℤ) → length p ≡ length q → take (length p) (zip_with f p q) ≡ zip_with f p q
 all f p q e = take_all (length p) (zip_with f p q) (omega (arith, zip_length f p q e))
@@ -27,29 +27,29 @@ crossed : (f : ℤ → ℤ → ℤ) (p q low high : List ℤ) {row₀ row₁ row
 crossed f p q low high {row₁ = row₁} {row₂ = row₂} l l' m d e k h =
     let a : take 11 row₁ ≡ zip_with f p q = rw l at (d.is ∙ all f p q (l ∙ sym l')) in
     sym (get_or-take (11 + length low) row₂ k (pos 0) h)
-    ∙ ap (λ (t : List ℤ). nth t k) (e.is ∙ (λ i. a i ++ all f low high (sym m) i) ∙ sym (zip-append f p q low high (l ∙ sym l')))
-    ∙ zip-at f (p ++ low) (q ++ high) k (simp length-append (omega arith)) (simp length-append (omega arith))
+    ∙ ap (λ (t : List ℤ). nth t k) (e.is ∙ (λ i. a i ++ all f low high (sym m) i) ∙ sym (zip_append f p q low high (l ∙ sym l')))
+    ∙ zip_at f (p ++ low) (q ++ high) k (simp length-append (omega arith)) (simp length-append (omega arith))
 
-taps-same : (phase : ℕ) (f g : ℕ → ℤ) (i : ℕ) → ((k : ℕ) → k < 12 → f (i + k) ≡ g k) → tapsAt phase f i ≡ tapsAt phase g 0
-unfolding tapsAt
-taps-same phase f g i e =
+taps_same : (phase : ℕ) (f g : ℕ → ℤ) (i : ℕ) → ((k : ℕ) → k < 12 → f (i + k) ≡ g k) → taps_at phase f i ≡ taps_at phase g 0
+unfolding taps_at
+taps_same phase f g i e =
     sum_same _ _ 12 (λ j l.
     let n : i + 11 - j ≡ i + (0 + 11 - j) = omega arith in
     λ t. coefficient (2 * j + phase) *ℤ (ap f n ∙ e (0 + 11 - j) (omega arith)) t)
 
 -- two rows that hold the differences and the sums of the first m numbers of two bands
-module _ (wl wh xd xs : List ℤ) {m : ℕ} (d : (k : ℕ) → k < m → nth xd k ≡ stoppedXd wl wh k)
-    (s : (k : ℕ) → k < m → nth xs k ≡ stoppedXs wl wh k) where
+module _ (wl wh xd xs : List ℤ) {m : ℕ} (d : (k : ℕ) → k < m → nth xd k ≡ stopped_xd wl wh k)
+    (s : (k : ℕ) → k < m → nth xs k ≡ stopped_xs wl wh k) where
   -- n pairs from place i on: they come behind p
   pub record JoinedAs (n i : ℕ) (p : Pairs) (low high : List ℤ) : Type 0 where
-    pub full : in_turn (first_at xd) (secondAt xs) i n ≡ joinedStopped p low high
-    pub samples : in_turn (λ (k : ℕ). limit (first_at xd k)) (λ (k : ℕ). limit (secondAt xs k)) i n ≡ map limit (joinedStopped p low high)
-    pub rl : drop (i + n) wl ≡ (pairsAfter p low high).rl
-    pub rh : drop (i + n) wh ≡ (pairsAfter p low high).rh
+    pub full : in_turn (first_at xd) (second_at xs) i n ≡ joined_stopped p low high
+    pub samples : in_turn (λ (k : ℕ). limit (first_at xd k)) (λ (k : ℕ). limit (second_at xs k)) i n ≡ map limit (joined_stopped p low high)
+    pub rl : drop (i + n) wl ≡ (pairs_after p low high).rl
+    pub rh : drop (i + n) wh ≡ (pairs_after p low high).rh
 
   pub joined_as : (n i : ℕ) (p : Pairs) (low high : List ℤ) → length low ≡ n → length high ≡ n
       → Left 11 wl i p.rl low → Left 11 wh i p.rh high → i + n + 11 ≤ m → JoinedAs n i p low high
-  unfolding in_turn joinedStopped pairsAfter pairsNext first_at secondAt
+  unfolding in_turn joined_stopped pairs_after pairs_next first_at second_at
   joined_as zero i p [] [] k k' f g h =
       let z : i + 0 ≡ i = omega arith in
       record { full = refl; samples = refl; rl = none_left f (i + 0) z; rh = none_left g (i + 0) z }
@@ -60,11 +60,11 @@ module _ (wl wh xd xs : List ℤ) {m : ℕ} (d : (k : ℕ) → k < m → nth xd 
   joined_as (suc n) i p (x ∷ low) (y ∷ high) k k' f g h =
       let u = place (x ∷ []) low f in
       let v = place (y ∷ []) high g in
-      let a = taps-same 0 (nth xd) _ i (λ j o. d (i + j) (omega arith) ∙ λ t. sub (u j o t) (v j o t)) in
-      let b = taps-same 1 (nth xs) _ i (λ j o. s (i + j) (omega arith) ∙ λ t. add (u j o t) (v j o t)) in
-      let f' = left-next (x ∷ []) low f (suc i) (omega arith) in
-      let g' = left-next (y ∷ []) high g (suc i) (omega arith) in
-      let r = joined_as n (suc i) (pairsNext p x y) low high (omega arith) (omega arith) f' g' (omega arith) in
+      let a = taps_same 0 (nth xd) _ i (λ j o. d (i + j) (omega arith) ∙ λ t. sub (u j o t) (v j o t)) in
+      let b = taps_same 1 (nth xs) _ i (λ j o. s (i + j) (omega arith) ∙ λ t. add (u j o t) (v j o t)) in
+      let f' = left_next (x ∷ []) low f (suc i) (omega arith) in
+      let g' = left_next (y ∷ []) high g (suc i) (omega arith) in
+      let r = joined_as n (suc i) (pairs_next p x y) low high (omega arith) (omega arith) f' g' (omega arith) in
       let z : i + suc n ≡ suc i + n = omega arith in
       record {
         full = λ t. shr (a t) 12 ∷ shr (b t) 12 ∷ r.full t;
@@ -74,14 +74,14 @@ module _ (wl wh xd xs : List ℤ) {m : ℕ} (d : (k : ℕ) → k < m → nth xd 
       }
 
 -- so what the rows of a block give is what the definitions give of it
-pub join-whole : (p : Pairs) (low high : List ℤ) {xd₀ xd₁ xd xs₀ xs₁ xs samples : List ℤ} {next : Pairs} {count : ℕ}
+pub join_whole : (p : Pairs) (low high : List ℤ) {xd₀ xd₁ xd xs₀ xs₁ xs samples : List ℤ} {next : Pairs} {count : ℕ}
     → length p.rl ≡ 11 → length p.rh ≡ 11 → length high ≡ length low
     → Crossed sub p.rl p.rh xd₀ 0 xd₁ (length p.rl) → Crossed add p.rl p.rh xs₀ 0 xs₁ (length p.rl)
     → Crossed sub low high xd₁ 11 xd (length low) → Crossed add low high xs₁ 11 xs (length low)
-    → Does (rowsJoined xd xs (length low)) count samples
+    → Does (rows_joined xd xs (length low)) count samples
     → next.rl ≡ drop (length low) (p.rl ++ low) → next.rh ≡ drop (length high) (p.rh ++ high)
-    → Does (joinRun p low high) (record { limited = count; past = next }) samples
-join-whole p low high l l' k d₁ s₁ d s r q q' =
+    → Does (join_run p low high) (record { limited = count; past = next }) samples
+join_whole p low high l l' k d₁ s₁ d s r q q' =
     let n = length low in
     let xd = crossed sub p.rl p.rh low high l l' k d₁ d in
     let xs = crossed add p.rl p.rh low high l l' k s₁ s in

@@ -18,26 +18,26 @@ pub none_left : {m : ℕ} {w p : List ℤ} {d : ℕ} → Left m w d p [] → (e 
 none_left {w = w} {p = p} f e h = ap (λ (j : ℕ). drop j w) h ∙ sym f.is ∙ append-nil p
 
 module _ {m : ℕ} {w p : List ℤ} {d : ℕ} (new rest : List ℤ) (f : Left m w d p (new ++ rest)) where
-  window-long : length (p ++ new) ≡ m + length new
-  window-long = length-append p new ∙ omega (arith, f.long)
+  window_long : length (p ++ new) ≡ m + length new
+  window_long = length-append p new ∙ omega (arith, f.long)
 
-  window-is : (p ++ new) ++ rest ≡ drop d w
-  window-is = append_assoc p new rest ∙ f.is
+  window_is : (p ++ new) ++ rest ≡ drop d w
+  window_is = append_assoc p new rest ∙ f.is
 
   pub place : (k : ℕ) → k < m + length new → nth w (d + k) ≡ nth (p ++ new) k
   place k h =
       sym (get_or-drop d w k (pos 0))
-      ∙ ap (λ (l : List ℤ). nth l k) (sym window-is)
-      ∙ get_or-append (p ++ new) rest (pos 0) k (omega (arith, window-long))
+      ∙ ap (λ (l : List ℤ). nth l k) (sym window_is)
+      ∙ get_or-append (p ++ new) rest (pos 0) k (omega (arith, window_long))
 
   -- the oldest go, as many as are new
-  pub left-next : (e : ℕ) → e ≡ d + length new → Left m w e (drop (length new) (p ++ new)) rest
-  left-next e h =
+  pub left_next : (e : ℕ) → e ≡ d + length new → Left m w e (drop (length new) (p ++ new)) rest
+  left_next e h =
       record {
-        long = length-drop (length new) (p ++ new) ∙ omega (arith, window-long);
+        long = length-drop (length new) (p ++ new) ∙ omega (arith, window_long);
         is =
-            sym (drop-append-le (length new) (p ++ new) rest (omega (arith, window-long)))
-            ∙ ap (λ (t : List ℤ). drop (length new) t) window-is
+            sym (drop-append-le (length new) (p ++ new) rest (omega (arith, window_long)))
+            ∙ ap (λ (t : List ℤ). drop (length new) t) window_is
             ∙ drop-drop (length new) d w
             ∙ ap (λ (j : ℕ). drop j w) (sym h);
       }

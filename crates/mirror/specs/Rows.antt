@@ -32,8 +32,8 @@ in_turn f g i zero = []
 in_turn f g i (suc n) = f i ∷ g i ∷ in_turn f g (suc i) n
 
 -- twelve taps of a phase at place i of a row: H(2j + phase) meets the number j places before place i + 11
-unfoldable pub tapsAt : ℕ → (ℕ → ℤ) → ℕ → ℤ
-tapsAt phase x i = sum (λ (j : ℕ). coefficient (2 * j + phase) *ℤ x (i + 11 - j)) 12
+unfoldable pub taps_at : ℕ → (ℕ → ℤ) → ℕ → ℤ
+taps_at phase x i = sum (λ (j : ℕ). coefficient (2 * j + phase) *ℤ x (i + 11 - j)) 12
 
 -- a sum of the same numbers
 pub sum_same : (f g : ℕ → ℤ) (n : ℕ) → ((i : ℕ) → i < n → f i ≡ g i) → sum f n ≡ sum g n
@@ -42,30 +42,30 @@ sum_same f g zero e = refl
 sum_same f g (suc n) e = λ j. sum_same f g n (λ i h. e i (omega arith)) j +ℤ e n (omega arith) j
 
 -- XL and XH in full: phase 0 meets the later samples of the pairs, phase 1 the earlier ones
-unfoldable pub lowAt : List ℤ → List ℤ → ℕ → ℤ
-lowAt even odd i = shr (tapsAt 0 (nth odd) i +ℤ tapsAt 1 (nth even) i) 13
+unfoldable pub low_at : List ℤ → List ℤ → ℕ → ℤ
+low_at even odd i = shr (taps_at 0 (nth odd) i +ℤ taps_at 1 (nth even) i) 13
 
-unfoldable pub highAt : List ℤ → List ℤ → ℕ → ℤ
-highAt even odd i = shr (tapsAt 0 (nth odd) i -ℤ tapsAt 1 (nth even) i) 13
+unfoldable pub high_at : List ℤ → List ℤ → ℕ → ℤ
+high_at even odd i = shr (taps_at 0 (nth odd) i -ℤ taps_at 1 (nth even) i) 13
 
 -- XOUT1 and XOUT2 in full
 unfoldable pub first_at : List ℤ → ℕ → ℤ
-first_at xd i = shr (tapsAt 0 (nth xd) i) 12
+first_at xd i = shr (taps_at 0 (nth xd) i) 12
 
-unfoldable pub secondAt : List ℤ → ℕ → ℤ
-secondAt xs i = shr (tapsAt 1 (nth xs) i) 12
+unfoldable pub second_at : List ℤ → ℕ → ℤ
+second_at xs i = shr (taps_at 1 (nth xs) i) 12
 
 -- both filters at n places: how many values were limited, and all values, limited
-abbrev pub rowsSplit : List ℤ → List ℤ → ℕ → Outcome ℕ (List ℤ × List ℤ)
-rowsSplit even odd n =
+abbrev pub rows_split : List ℤ → List ℤ → ℕ → Outcome ℕ (List ℤ × List ℤ)
+rows_split even odd n =
     record {
-      answer = overloads (in_turn (lowAt even odd) (highAt even odd) 0 n);
-      left = (from (λ (k : ℕ). limit (lowAt even odd k)) 0 n, from (λ (k : ℕ). limit (highAt even odd k)) 0 n);
+      answer = overloads (in_turn (low_at even odd) (high_at even odd) 0 n);
+      left = (from (λ (k : ℕ). limit (low_at even odd k)) 0 n, from (λ (k : ℕ). limit (high_at even odd k)) 0 n);
     }
 
-abbrev pub rowsJoined : List ℤ → List ℤ → ℕ → Outcome ℕ (List ℤ)
-rowsJoined xd xs n =
+abbrev pub rows_joined : List ℤ → List ℤ → ℕ → Outcome ℕ (List ℤ)
+rows_joined xd xs n =
     record {
-      answer = overloads (in_turn (first_at xd) (secondAt xs) 0 n);
-      left = in_turn (λ (k : ℕ). limit (first_at xd k)) (λ (k : ℕ). limit (secondAt xs k)) 0 n;
+      answer = overloads (in_turn (first_at xd) (second_at xs) 0 n);
+      left = in_turn (λ (k : ℕ). limit (first_at xd k)) (λ (k : ℕ). limit (second_at xs k)) 0 n;
     }

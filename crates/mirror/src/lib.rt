@@ -5,8 +5,8 @@ mod rows;
 mod transmit;
 
 ghost use Rattle.std.specs.Prelude.{◌≡◌, ◌*◌, ◌≤◌, ◌<◌, nat_abs};
-ghost use Rattle.mirror.specs.Rows.{nth, tapsAt};
-ghost use Rattle.mirror.specs.Block.{blockFits};
+ghost use Rattle.mirror.specs.Rows.{nth, taps_at};
+ghost use Rattle.mirror.specs.Block.{block_fits};
 
 use arith::wide;
 use g722::Pairs;
@@ -37,7 +37,7 @@ const H: [i16; 24] = [
 fn taps(phase: usize, x: &[i16; 171], i: usize) -> i32
     requires phase_bound { phase ≤ 1 }
     requires i_bound { i < 160 }
-    ensures { (result ≡ tapsAt phase (nth x.now) i) × (nat_abs result ≤ 6482 * 32768) }
+    ensures { (result ≡ taps_at phase (nth x.now) i) × (nat_abs result ≤ 6482 * 32768) }
 {
     let h = H;
     let mut sum: i32 = 0;
@@ -49,7 +49,7 @@ fn taps(phase: usize, x: &[i16; 171], i: usize) -> i32
 
 // Whether so many samples and low and high signals make one block.
 fn fits(samples: usize, low: usize, high: usize) -> bool
-    ensures { result ≡ blockFits samples low high }
+    ensures { result ≡ block_fits samples low high }
 {
     if 160 < low {
         return false;

@@ -1,8 +1,8 @@
 // The receive filter: low and high signals to samples.
 ghost use Rattle.std.specs.Prelude.{◌≡◌, ◌*◌, ◌≤◌, length};
 ghost use Rattle.laws.specs.Outcome.{Does};
-ghost use Rattle.mirror.specs.Rows.{rowsJoined};
-ghost use Rattle.mirror.specs.Block.{joinBlock};
+ghost use Rattle.mirror.specs.Rows.{rows_joined};
+ghost use Rattle.mirror.specs.Block.{join_block};
 
 use crate::rows::{cross, last};
 use crate::{Joined, fits, taps};
@@ -13,7 +13,7 @@ use g722::Pairs;
 fn join_rows(xd: &[i16; 171], xs: &[i16; 171], n: usize, samples: &mut [i16]) -> u32
     requires n_bound { n ≤ 160 }
     requires samples_len { length samples.old ≡ 2 * n }
-    ensures { Does (rowsJoined xd.now xs.now n) result samples.new }
+    ensures { Does (rows_joined xd.now xs.now n) result samples.new }
 {
     let mut limited: u32 = 0;
     for i in 0..n {
@@ -30,7 +30,7 @@ fn join_rows(xd: &[i16; 171], xs: &[i16; 171], n: usize, samples: &mut [i16]) ->
 
 // The receive filter over a block: the samples of its low and high signals. A block that does not fit is given back as it came.
 pub fn join(past: Pairs, low: &[i16], high: &[i16], samples: &mut [i16]) -> Joined
-    ensures { Does (joinBlock past low.now high.now samples.old) result samples.new }
+    ensures { Does (join_block past low.now high.now samples.old) result samples.new }
 {
     if !fits(samples.len(), low.len(), high.len()) {
         return Joined {

@@ -1,8 +1,8 @@
 // The transmit filter: samples to low and high signals.
 ghost use Rattle.std.specs.Prelude.{◌≡◌, ◌≤◌, length};
 ghost use Rattle.laws.specs.Outcome.{Does};
-ghost use Rattle.mirror.specs.Rows.{rowsSplit};
-ghost use Rattle.mirror.specs.Block.{splitBlock};
+ghost use Rattle.mirror.specs.Rows.{rows_split};
+ghost use Rattle.mirror.specs.Block.{split_block};
 
 use crate::rows::{deal, kept};
 use crate::{Parted, fits, taps};
@@ -12,7 +12,7 @@ use arith::{changes, limit};
 fn split_rows(even: &[i16; 171], odd: &[i16; 171], low: &mut [i16], high: &mut [i16]) -> u32
     requires low_len_bound { length low.old ≤ 160 }
     requires high_len { length high.old ≡ length low.old }
-    ensures { Does (rowsSplit even.now odd.now (length low.old)) result
+    ensures { Does (rows_split even.now odd.now (length low.old)) result
         (low.new, high.new) }
 {
     let mut limited: u32 = 0;
@@ -32,7 +32,7 @@ fn split_rows(even: &[i16; 171], odd: &[i16; 171], low: &mut [i16], high: &mut [
 
 // The transmit filter over a block: the low and high signals of its samples. A block that does not fit is given back as it came.
 pub fn split(past: [i16; 22], samples: &[i16], low: &mut [i16], high: &mut [i16]) -> Parted
-    ensures { Does (splitBlock past samples.now low.old high.old) result
+    ensures { Does (split_block past samples.now low.old high.old) result
         (low.new, high.new) }
 {
     if !fits(samples.len(), low.len(), high.len()) {

@@ -6,17 +6,17 @@ use Rattle.laws.specs.Outcome.{Outcome}
 use Rattle.g722.specs.declared.Coder.{Coder}
 use Rattle.g722.specs.declared.Decoder.{Decoder}
 use Rattle.conference.specs.Sums.{mixed}
-use Rattle.conference.specs.Ports.{rlsFrom, rhsFrom, decoderFrom, octetTo, coderTo, eachPort}
-use Rattle.conference.specs.Tick.{sumsLimited}
+use Rattle.conference.specs.Ports.{rls_from, rhs_from, decoder_from, octet_to, coder_to, each_port}
+use Rattle.conference.specs.Tick.{sums_limited}
 use Rattle.mixer.specs.declared.Mixed.{Mixed}
 
-abbrev pub hearRun : List Decoder → List ℕ → List ℕ → Outcome (List Decoder) (List ℤ × List ℤ)
-hearRun decoders modes octets =
-    record { answer = eachPort decoderFrom decoders octets; left = (rlsFrom decoders modes octets, rhsFrom decoders octets) }
+abbrev pub hear_run : List Decoder → List ℕ → List ℕ → Outcome (List Decoder) (List ℤ × List ℤ)
+hear_run decoders modes octets =
+    record { answer = each_port decoder_from decoders octets; left = (rls_from decoders modes octets, rhs_from decoders octets) }
 
-abbrev pub sendRun : List Coder → List ℤ → List ℤ → Outcome Mixed (List ℕ)
-sendRun coders low high =
+abbrev pub send_run : List Coder → List ℤ → List ℤ → Outcome Mixed (List ℕ)
+send_run coders low high =
     record {
-      answer = record { limited = sumsLimited low high; coders = eachPort coderTo coders (zip (mixed low) (mixed high)) };
-      left = zip_with octetTo coders (zip (mixed low) (mixed high));
+      answer = record { limited = sums_limited low high; coders = each_port coder_to coders (zip (mixed low) (mixed high)) };
+      left = zip_with octet_to coders (zip (mixed low) (mixed high));
     }

@@ -1,6 +1,6 @@
 // What a tick looks at before it does anything.
 ghost use Rattle.std.specs.Prelude.{◌≡◌};
-ghost use Rattle.conference.specs.Tick.{unseated, uneven, anyAbove, goodPorts};
+ghost use Rattle.conference.specs.Tick.{unseated, uneven, any_above, good_ports};
 
 use bounds::{both, lesser};
 use coder::good_coder;
@@ -32,7 +32,7 @@ pub(crate) fn uneven(ports: usize, modes: usize, octets: usize, room: usize) -> 
 
 // Whether a told mode is above 3.
 pub(crate) fn any_above(modes: &[u8]) -> bool
-    ensures { result ≡ anyAbove modes.now }
+    ensures { result ≡ any_above modes.now }
 {
     for i in 0..modes.len() {
         if 3 < modes[i] {
@@ -44,7 +44,7 @@ pub(crate) fn any_above(modes: &[u8]) -> bool
 
 // Whether the records of every port in use keep their bounds.
 pub(crate) fn good_ports(desk: Desk) -> bool
-    ensures { result ≡ goodPorts desk }
+    ensures { result ≡ good_ports desk }
 {
     let ports = desk.ports as usize;
     let n = lesser(ports, 8);

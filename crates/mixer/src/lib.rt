@@ -4,8 +4,8 @@ mod sums;
 
 ghost use Rattle.std.specs.Prelude.{◌≡◌, ◌≤◌, length};
 ghost use Rattle.laws.specs.Outcome.{Does};
-ghost use Rattle.conference.specs.Tick.{ticked, tickCall, resetCall};
-ghost use Rattle.mixer.specs.Run.{hearRun, sendRun};
+ghost use Rattle.conference.specs.Tick.{ticked, tick_call, reset_call};
+ghost use Rattle.mixer.specs.Run.{hear_run, send_run};
 
 use check::{any_above, good_ports, uneven, unseated};
 use conference::{Desk, Ticked};
@@ -35,7 +35,7 @@ fn answer(number: u8, limited: u32, desk: Desk) -> Ticked
 
 // A desk of so many ports, or 9.
 pub fn reset(ports: u8) -> Ticked
-    ensures { result ≡ resetCall ports }
+    ensures { result ≡ reset_call ports }
 {
     let c = coder::reset();
     let d = decoder::reset();
@@ -62,7 +62,7 @@ fn hear_all(
     requires modes_len { length modes.now ≡ length octets.now }
     requires low_len { length low.old ≡ length octets.now }
     requires high_len { length high.old ≡ length octets.now }
-    ensures { Does (hearRun decoders modes.now octets.now) result (low.new, high.new) }
+    ensures { Does (hear_run decoders modes.now octets.now) result (low.new, high.new) }
 {
     let mut t = decoders;
     for i in 0..octets.len() {
@@ -83,7 +83,7 @@ fn send_all(coders: [Coder; 8], low: &[i16], high: &[i16], room: &mut [u8]) -> M
     requires low_len_bound { length low.now ≤ 8 }
     requires high_len { length high.now ≡ length low.now }
     requires room_len { length room.old ≡ length low.now }
-    ensures { Does (sendRun coders low.now high.now) result room.new }
+    ensures { Does (send_run coders low.now high.now) result room.new }
 {
     let all_low = total(low);
     let all_high = total(high);
@@ -149,7 +149,7 @@ fn run(desk: Desk, modes: &[u8], octets: &[u8], room: &mut [u8]) -> Ticked
 
 // A tick: an octet and a told mode from every port, and room for an octet to each.
 pub fn tick(desk: Desk, modes: &[u8], octets: &[u8], room: &mut [u8]) -> Ticked
-    ensures { Does (tickCall desk modes.now octets.now room.old) result room.new }
+    ensures { Does (tick_call desk modes.now octets.now room.old) result room.new }
 {
     let ports = desk.ports;
     let no_desk = unseated(ports);

@@ -3,16 +3,16 @@ use base.Stored.{coded×, coded_list, coded_ℕ}
 use Rattle.laws.specs.One.{LeavesOne, call}
 use Rattle.pcm.proofs as pcm
 
-pub encode-chunk : LeavesOne pcm.encode_chunk.ended (λ M. pcm.encode_chunk.clauses) pcm.encode_chunk.Symbol.routine
-encode-chunk = call (coded_list coded_ℕ) (λ κs a l m e i. (tt, (tt, (e i, tt)))) (λ M. pcm.encode_chunk.Met.met)
+pub encode_chunk : LeavesOne pcm.encode_chunk.ended (λ M. pcm.encode_chunk.clauses) pcm.encode_chunk.Symbol.routine
+encode_chunk = call (coded_list coded_ℕ) (λ κs a l m e i. (tt, (tt, (e i, tt)))) (λ M. pcm.encode_chunk.Met.met)
 
-pub decode-chunk : LeavesOne pcm.decode_chunk.ended (λ M. pcm.decode_chunk.clauses) pcm.decode_chunk.Symbol.routine
-decode-chunk = call (coded_list coded_ℕ) (λ κs a l m e i. (tt, (tt, (tt, (e i, tt))))) (λ M. pcm.decode_chunk.Met.met)
+pub decode_chunk : LeavesOne pcm.decode_chunk.ended (λ M. pcm.decode_chunk.clauses) pcm.decode_chunk.Symbol.routine
+decode_chunk = call (coded_list coded_ℕ) (λ κs a l m e i. (tt, (tt, (tt, (e i, tt))))) (λ M. pcm.decode_chunk.Met.met)
 
-pub hear-chunk : LeavesOne pcm.hear_chunk.ended (λ M. pcm.hear_chunk.clauses) pcm.hear_chunk.Symbol.routine
-hear-chunk =
+pub hear_chunk : LeavesOne pcm.hear_chunk.ended (λ M. pcm.hear_chunk.clauses) pcm.hear_chunk.Symbol.routine
+hear_chunk =
     call (coded× (coded_list coded_ℕ) (coded_list coded_ℕ)) (λ κs a l m e i. (tt, (tt, (tt, ((e i).0, ((e i).1, tt))))))
     (λ M. pcm.hear_chunk.Met.met)
 
-pub join-chunk : LeavesOne pcm.join_chunk.ended (λ M. pcm.join_chunk.clauses) pcm.join_chunk.Symbol.routine
-join-chunk = call (coded_list coded_ℕ) (λ κs a l m e i. (tt, (tt, (tt, (e i, tt))))) (λ M. pcm.join_chunk.Met.met)
+pub join_chunk : LeavesOne pcm.join_chunk.ended (λ M. pcm.join_chunk.clauses) pcm.join_chunk.Symbol.routine
+join_chunk = call (coded_list coded_ℕ) (λ κs a l m e i. (tt, (tt, (tt, (e i, tt))))) (λ M. pcm.join_chunk.Met.met)

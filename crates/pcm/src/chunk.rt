@@ -1,9 +1,9 @@
 // Coding and decoding of samples that stand as bytes, two a sample: one chunk of a stream.
 ghost use Rattle.std.specs.Prelude.{◌≡◌, ◌*◌, length};
 ghost use Rattle.laws.specs.Outcome.{Does};
-ghost use Rattle.g722.specs.Coding.{codeCall};
-ghost use Rattle.big_endian.specs.Bytes.{pcmSamples};
-ghost use Rattle.pcm.specs.Chunks.{encodeChunk, decodeChunk};
+ghost use Rattle.g722.specs.Coding.{code_call};
+ghost use Rattle.big_endian.specs.Bytes.{pcm_samples};
+ghost use Rattle.pcm.specs.Chunks.{encode_chunk, decode_chunk};
 
 use big_endian::{load, store};
 use coder::good_coder;
@@ -16,7 +16,7 @@ use g722::{Coded, Coder, Decoded, Decoder};
 
 // A coding call on bytes: 4n bytes to n octets, n at most 8000.
 pub fn encode_chunk(c: Coder, bytes: &[u8], octets: &mut [u8]) -> Coded
-    ensures { Does (encodeChunk c bytes.now octets.old) result octets.new }
+    ensures { Does (encode_chunk c bytes.now octets.old) result octets.new }
 {
     let n = octets.len();
     if 8000 < n {
@@ -38,7 +38,7 @@ pub fn encode_chunk(c: Coder, bytes: &[u8], octets: &mut [u8]) -> Coded
 
 // A decoding call to bytes: n octets to 4n bytes, n at most 8000, in a told mode.
 pub fn decode_chunk(d: Decoder, told: u8, octets: &[u8], bytes: &mut [u8]) -> Decoded
-    ensures { Does (decodeChunk d told octets.now bytes.old) result bytes.new }
+    ensures { Does (decode_chunk d told octets.now bytes.old) result bytes.new }
 {
     if 3 < told {
         return not_decoded(1, d);
@@ -64,7 +64,7 @@ pub fn decode_chunk(d: Decoder, told: u8, octets: &[u8], bytes: &mut [u8]) -> De
 // Reads the samples, and codes them.
 fn load_and_code(c: Coder, bytes: &[u8], samples: &mut [i16], octets: &mut [u8]) -> Coded
     requires { length bytes.now ≡ 2 * length samples.old }
-    ensures { Does (codeCall c (pcmSamples bytes.now) octets.old) result octets.new }
+    ensures { Does (code_call c (pcm_samples bytes.now) octets.old) result octets.new }
 {
     load(bytes, samples);
     coder::code(c, samples, octets)
@@ -80,7 +80,7 @@ fn decode_and_store(
 ) -> Decoded
     requires samples_len { length samples.old ≡ 2 * length octets.now }
     requires bytes_len { length bytes.old ≡ 4 * length octets.now }
-    ensures { Does (decodeChunk d told octets.now bytes.old) result bytes.new }
+    ensures { Does (decode_chunk d told octets.now bytes.old) result bytes.new }
 {
     let r = decoder::decode(d, told, octets, samples);
     if r.number == 0 {

@@ -1,7 +1,7 @@
 // The two steps of decoding on signals that stand as bytes, two a signal.
 ghost use Rattle.std.specs.Prelude.{◌≡◌, ◌*◌, length};
 ghost use Rattle.laws.specs.Outcome.{Does};
-ghost use Rattle.pcm.specs.Signals.{unpairedBytes, hearChunk, joinChunk};
+ghost use Rattle.pcm.specs.Signals.{unpaired_bytes, hear_chunk, join_chunk};
 
 use crate::not_decoded;
 use big_endian::{load, store};
@@ -12,7 +12,7 @@ use g722::{Decoded, Decoder};
 
 // Whether lengths do not fit: n pairs, at most 8000, of two bytes each low and high.
 fn unpaired(n: usize, low: usize, high: usize) -> bool
-    ensures { result ≡ unpairedBytes n low high }
+    ensures { result ≡ unpaired_bytes n low high }
 {
     if 8000 < n {
         return true;
@@ -25,7 +25,7 @@ fn unpaired(n: usize, low: usize, high: usize) -> bool
 
 // A call of the first step: n octets to 2n bytes of low and 2n of high signals, n at most 8000, in a told mode.
 pub fn hear_chunk(d: Decoder, told: u8, octets: &[u8], low: &mut [u8], high: &mut [u8]) -> Decoded
-    ensures { Does (hearChunk d told octets.now low.old high.old) result
+    ensures { Does (hear_chunk d told octets.now low.old high.old) result
         (low.new, high.new) }
 {
     if 3 < told {
@@ -50,7 +50,7 @@ pub fn hear_chunk(d: Decoder, told: u8, octets: &[u8], low: &mut [u8], high: &mu
 
 // A call of the second step: 2n bytes of low and 2n of high signals to 4n bytes of samples, n at most 8000.
 pub fn join_chunk(d: Decoder, low: &[u8], high: &[u8], samples: &mut [u8]) -> Decoded
-    ensures { Does (joinChunk d low.now high.now samples.old) result samples.new }
+    ensures { Does (join_chunk d low.now high.now samples.old) result samples.new }
 {
     let n = low.len() / 2;
     if unpaired(n, low.len(), high.len()) {
@@ -87,7 +87,7 @@ fn hear_and_store(
 ) -> Decoded
     requires { (length rl.old ≡ length octets.now) × (length rh.old ≡ length octets.now)
         × (length low.old ≡ 2 * length octets.now) × (length high.old ≡ 2 * length octets.now) }
-    ensures { Does (hearChunk d told octets.now low.old high.old) result
+    ensures { Does (hear_chunk d told octets.now low.old high.old) result
         (low.new, high.new) }
 {
     let r = hear(d, told, octets, rl, rh);
@@ -110,7 +110,7 @@ fn load_and_join(
 ) -> Decoded
     requires { (length low.now ≡ 2 * length rl.old) × (length high.now ≡ 2 * length rl.old) × (length rh.old ≡ length rl.old)
         × (length x.old ≡ 2 * length rl.old) × (length samples.old ≡ 4 * length rl.old) }
-    ensures { Does (joinChunk d low.now high.now samples.old) result samples.new }
+    ensures { Does (join_chunk d low.now high.now samples.old) result samples.new }
 {
     load(low, rl);
     load(high, rh);

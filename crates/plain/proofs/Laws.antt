@@ -4,7 +4,7 @@ use mathlib.Core.Path.{◌≡◌, ap, ◌∙◌}
 use Prim.Native.Nat.{ℕ}
 use lib.IntN.{ℤ}
 use Rattle.g722.specs.Arithmetic.{add, sub, limited}
-use Rattle.g722.specs.Band.{predic, recons, nextBand}
+use Rattle.g722.specs.Band.{predic, recons, next_band}
 use Rattle.g722.specs.Octet.{octet}
 use Rattle.g722.specs.declared.Factors.{Factors}
 use Rattle.g722.specs.declared.Limited.{Limited}
@@ -14,7 +14,7 @@ use Rattle.band.specs.Loop.{estimated, adapted, halves}
 use Rattle.plain.specs.declared.Word.{Word}
 use Rattle.plain.specs.declared.Banded.{Banded}
 use Rattle.plain.specs.declared.Signal.{Signal}
-use Rattle.plain.specs.Step.{lowCoded, highCoded, bandsCoded}
+use Rattle.plain.specs.Step.{low_coded, high_coded, bands_coded}
 
 -- ---- one band coded, low or high: its word and the band after it, step by step
 
@@ -22,13 +22,13 @@ module _ (quant : ℤ → ℤ → ℕ) (inverse : ℕ → ℤ → ℤ) (factors 
   abbrev word : ℕ
   word = quant (sub x (predic band)) band.factors.scale
 
-  pub band-coded : {e : Estimates} {s scale x' error d : ℤ} {w : ℕ} {f : Factors} {next : Band}
+  pub band_coded : {e : Estimates} {s scale x' error d : ℤ} {w : ℕ} {f : Factors} {next : Band}
       → e ≡ estimated band → s ≡ e.s → scale ≡ band.factors.scale → x' ≡ x → error ≡ sub x' s → w ≡ quant error scale
       → d ≡ inverse w scale → f ≡ factors band.factors w → next ≡ adapted band e d f
       → ◌≡◌ {A = Word} (record { word = w; next = next })
-      (record { word = word; next = nextBand band (inverse word band.factors.scale) (factors band.factors word) })
+      (record { word = word; next = next_band band (inverse word band.factors.scale) (factors band.factors word) })
   unfolding estimated
-  band-coded e≡ s≡ scale≡ x≡ error≡ w≡ d≡ f≡ next≡ =
+  band_coded e≡ s≡ scale≡ x≡ error≡ w≡ d≡ f≡ next≡ =
       let error = error≡ ∙ λ i. sub (x≡ i) ((s≡ ∙ ap (λ (t : Estimates). t.s) e≡) i) in
       let w = w≡ ∙ λ i. quant (error i) (scale≡ i) in
       let d = d≡ ∙ λ i. inverse (w i) (scale≡ i) in
@@ -38,23 +38,23 @@ module _ (quant : ℤ → ℤ → ℕ) (inverse : ℕ → ℤ → ℤ) (factors 
 
 -- ---- both bands coded
 
-pub signals-coded : (low high : Band) (xl xh : ℤ) {l h : Word} {o : ℕ}
-    → l ≡ lowCoded low xl → h ≡ highCoded high xh → o ≡ octet h.word l.word
-    → ◌≡◌ {A = Banded} (record { octet = o; low = l.next; high = h.next }) (bandsCoded low high xl xh)
-unfolding bandsCoded lowCoded highCoded
-signals-coded low high xl xh l≡ h≡ o≡ =
+pub signals_coded : (low high : Band) (xl xh : ℤ) {l h : Word} {o : ℕ}
+    → l ≡ low_coded low xl → h ≡ high_coded high xh → o ≡ octet h.word l.word
+    → ◌≡◌ {A = Banded} (record { octet = o; low = l.next; high = h.next }) (bands_coded low high xl xh)
+unfolding bands_coded low_coded high_coded
+signals_coded low high xl xh l≡ h≡ o≡ =
     let o = o≡ ∙ λ i. octet (h≡ i).word (l≡ i).word in
     λ i. record { octet = o i; low = (l≡ i).next; high = (h≡ i).next }
 
 -- ---- one band heard, low or high: its signal and the band after it, step by step
 
-pub band-heard : (band : Band) (heard looped : ℤ) (factors : Factors)
+pub band_heard : (band : Band) (heard looped : ℤ) (factors : Factors)
     {e : Estimates} {s q y d : ℤ} {signal : Limited} {f : Factors} {next : Band}
     → e ≡ estimated band → s ≡ e.s → q ≡ heard → y ≡ add s q → signal ≡ limited y → d ≡ looped → f ≡ factors → next ≡ adapted band e d f
     → ◌≡◌ {A = Signal} (record { signal = signal; next = next })
-    (record { signal = limited (recons band heard); next = nextBand band looped factors })
+    (record { signal = limited (recons band heard); next = next_band band looped factors })
 unfolding estimated recons
-band-heard band heard looped factors e≡ s≡ q≡ y≡ signal≡ d≡ f≡ next≡ =
+band_heard band heard looped factors e≡ s≡ q≡ y≡ signal≡ d≡ f≡ next≡ =
     let y = y≡ ∙ λ i. add ((s≡ ∙ ap (λ (t : Estimates). t.s) e≡) i) (q≡ i) in
     let signal = signal≡ ∙ ap limited y in
     let next = next≡ ∙ (λ i. adapted band (e≡ i) (d≡ i) (f≡ i)) ∙ halves band looped factors in

@@ -1,7 +1,7 @@
 // The sub-band coders: a signal of either band to its word, and one of each to an octet.
 ghost use Rattle.std.specs.Prelude.{◌≡◌, ◌<◌};
 ghost use Rattle.g722.specs.Octet.{octet};
-ghost use Rattle.plain.specs.Step.{lowCoded, highCoded, bandsCoded};
+ghost use Rattle.plain.specs.Step.{low_coded, high_coded, bands_coded};
 
 use crate::{Banded, Word};
 use arith::sub;
@@ -11,7 +11,7 @@ use quant::{high_factors, invqah, invqal, low_factors, quanth, quantl};
 
 // The low band's word for its signal.
 pub fn low_coded(s: Band, x: i16) -> Word
-    ensures { result ≡ lowCoded s x }
+    ensures { result ≡ low_coded s x }
 {
     let f = s.factors;
     let scale = f.scale;
@@ -25,7 +25,7 @@ pub fn low_coded(s: Band, x: i16) -> Word
 
 // The high band's.
 pub fn high_coded(s: Band, x: i16) -> Word
-    ensures { result ≡ highCoded s x }
+    ensures { result ≡ high_coded s x }
 {
     let f = s.factors;
     let scale = f.scale;
@@ -47,7 +47,7 @@ fn octet(ih: u8, il: u8) -> u8
 
 // Both sub-band coders, without the transmit filter: the octet of a low and a high signal.
 pub fn bands_coded(low: Band, high: Band, xl: i16, xh: i16) -> Banded
-    ensures { result ≡ bandsCoded low high xl xh }
+    ensures { result ≡ bands_coded low high xl xh }
 {
     let l = low_coded(low, xl);
     let h = high_coded(high, xh);

@@ -1,6 +1,6 @@
 // The sub-band decoders: an octet to the heard signal of either band.
 ghost use Rattle.std.specs.Prelude.{◌≡◌};
-ghost use Rattle.plain.specs.Step.{lowHeard, highHeard};
+ghost use Rattle.plain.specs.Step.{low_heard, high_heard};
 
 use crate::Signal;
 use arith::{add, limit, wide};
@@ -10,7 +10,7 @@ use quant::{high_factors, invqah, invqal, invqbl, low_factors};
 
 // The low band's heard signal, by the mode in force. The loop goes by the upper four bits whatever the mode.
 pub fn low_heard(mode: u8, s: Band, o: u8) -> Signal
-    ensures { result ≡ lowHeard mode s o }
+    ensures { result ≡ low_heard mode s o }
 {
     let il = o % 64;
     let f = s.factors;
@@ -25,7 +25,7 @@ pub fn low_heard(mode: u8, s: Band, o: u8) -> Signal
 
 // The high band's.
 pub fn high_heard(s: Band, o: u8) -> Signal
-    ensures { result ≡ highHeard s o }
+    ensures { result ≡ high_heard s o }
 {
     let ih = o / 64;
     let f = s.factors;

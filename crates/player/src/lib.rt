@@ -1,10 +1,10 @@
 // A block of a recording played from inside it, each take from reset (SCOPE, the listing).
 ghost use Rattle.std.specs.Prelude.{◌≡◌, true, ◌*◌, length};
 ghost use Rattle.laws.specs.Outcome.{Does};
-ghost use Rattle.g722.specs.Records.{goodDecoder};
+ghost use Rattle.g722.specs.Records.{good_decoder};
 ghost use Rattle.g722.specs.Decoding.{decoded};
 ghost use Rattle.block.specs.Formed.{Allowed};
-ghost use Rattle.playing.specs.Play.{startPlayer, begins, decoderFor, notPlayed, playCall};
+ghost use Rattle.playing.specs.Play.{start_player, begins, decoder_for, not_played, play_call};
 
 use block::BlockRead;
 use g722::{Decoded, Decoder};
@@ -12,7 +12,7 @@ use playing::{Played, Player};
 
 // The player before the first block.
 pub fn start() -> Player
-    ensures { result ≡ startPlayer }
+    ensures { result ≡ start_player }
 {
     let d = decoder::reset();
     Player {
@@ -36,7 +36,7 @@ fn begins(before: u32, read: BlockRead) -> bool
 
 // The decoder's record for a block: that of a reset where a take begins, else the player's. The first block begins one anyway.
 fn decoder_for(p: Player, read: BlockRead) -> Decoder
-    ensures { result ≡ decoderFor p read }
+    ensures { result ≡ decoder_for p read }
 {
     if !p.begun {
         return decoder::reset();
@@ -49,7 +49,7 @@ fn decoder_for(p: Player, read: BlockRead) -> Decoder
 
 // A block that was not played: the number, the player's record as it came, and 0 in every other field.
 fn not_played(number: u8, p: Player) -> Played
-    ensures { result ≡ notPlayed number p }
+    ensures { result ≡ not_played number p }
 {
     Played {
         number: number,
@@ -74,7 +74,7 @@ fn in_steps(
     high: &mut [i16],
     samples: &mut [i16],
 ) -> Decoded
-    requires allowed { Allowed mode (length octets.now) × (goodDecoder d ≡ true) }
+    requires allowed { Allowed mode (length octets.now) × (good_decoder d ≡ true) }
     requires low_len { (length low.old ≡ length octets.now) × (length high.old ≡ length octets.now) }
     requires samples_len { length samples.old ≡ 2 * length octets.now }
     ensures { Does (decoded mode d octets.now) result samples.new }
@@ -85,7 +85,7 @@ fn in_steps(
 
 // The same with rows of its own, which have room for the signals of any block.
 fn heard_and_joined(d: Decoder, mode: u8, octets: &[u8], samples: &mut [i16]) -> Decoded
-    requires allowed { Allowed mode (length octets.now) × (goodDecoder d ≡ true) }
+    requires allowed { Allowed mode (length octets.now) × (good_decoder d ≡ true) }
     requires samples_len { length samples.old ≡ 2 * length octets.now }
     ensures { Does (decoded mode d octets.now) result samples.new }
 {
@@ -98,7 +98,7 @@ fn heard_and_joined(d: Decoder, mode: u8, octets: &[u8], samples: &mut [i16]) ->
 // Reads a block and decodes its octets, from inside it and in two steps, into the front of the samples, from reset where a take begins.
 // It gives reading's refusals, then 3 where the samples are too few, then 2 where the player's record is broken.
 pub fn play(p: Player, b: &[u8], samples: &mut [i16]) -> Played
-    ensures { Does (playCall p b.now samples.old) result samples.new }
+    ensures { Does (play_call p b.now samples.old) result samples.new }
 {
     let read = block::read(b);
     if read.number != 0 {

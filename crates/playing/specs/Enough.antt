@@ -7,93 +7,93 @@ use Rattle.std.proofs.Common.{◌∙◌, arith}
 use mathlib.Core.List.{List, [], ◌∷◌, append-nil, flat_map}
 use Rattle.std.proofs.Math.ListN.{length, length-append, length-drop}
 use Rattle.laws.specs.Outcome.{Outcome}
-use Rattle.g722.specs.Records.{goodDecoder, resetDecoder}
-use Rattle.g722.specs.Decoding.{samplesOf}
-use Rattle.block.specs.Calls.{readCall}
+use Rattle.g722.specs.Records.{good_decoder, reset_decoder}
+use Rattle.g722.specs.Decoding.{samples_of}
+use Rattle.block.specs.Calls.{read_call}
 use Rattle.playing.specs.declared.Played.{Played}
-use Rattle.playing.specs.Play.{startPlayer, afresh, decoderFor, octetsIn}
-use Rattle.playing.specs.Played.{octets-length, read-bounds, start-good, play-done}
-use Rattle.facts.specs.Told.{decoderRun, samplesRun, samples-length}
-use Rattle.facts.specs.Good.{decoder-run-good, decoder-reset-good}
-use Rattle.playing.specs.Run.{Playing, fresh, played, onward, AllPlayed, heard, after, allTold}
-use Rattle.playing.specs.Takes.{takes, heardAlone, all-alone, leftBy, samples-by-takes, record-by-takes, GoOn, one-take}
+use Rattle.playing.specs.Play.{start_player, afresh, decoder_for, octets_in}
+use Rattle.playing.specs.Played.{octets_length, read_bounds, start_good, play_done}
+use Rattle.facts.specs.Told.{decoder_run, samples_run, samples_length}
+use Rattle.facts.specs.Good.{decoder_run_good, decoder_reset_good}
+use Rattle.playing.specs.Run.{Playing, fresh, played, onward, AllPlayed, heard, after, all_told}
+use Rattle.playing.specs.Takes.{takes, heard_alone, all_alone, left_by, samples_by_takes, record_by_takes, GoOn, one_take}
 
 -- every piece reads well
 unfoldable pub AllRead : List (List ℕ) → Type 0
 AllRead [] = Unit {0}
-AllRead (piece ∷ rest) = ((readCall piece).number ≡ 0) × AllRead rest
+AllRead (piece ∷ rest) = ((read_call piece).number ≡ 0) × AllRead rest
 
 -- a player with a good record and room for any block
 pub record Ready (p : Playing) : Type 0 where
-  pub sound : goodDecoder p.player.decoder ≡ true
+  pub sound : good_decoder p.player.decoder ≡ true
   pub room : 960 ≤ length p.samples
 
-module _ (p : Playing) (piece : List ℕ) (z : (readCall piece).number ≡ 0) (r : Ready p) where
+module _ (p : Playing) (piece : List ℕ) (z : (read_call piece).number ≡ 0) (r : Ready p) where
   abbrev mode : ℕ
-  mode = (readCall piece).mode
+  mode = (read_call piece).mode
 
-  pub fits : 2 * (readCall piece).count ≤ length p.samples
-  fits = omega (arith, (read-bounds piece z).says.count_most, r.room)
+  pub fits : 2 * (read_call piece).count ≤ length p.samples
+  fits = omega (arith, (read_bounds piece z).says.count_most, r.room)
 
-  pub is-played : (played p piece).answer.number ≡ 0
-  is-played = ap (λ (x : Outcome Played (List ℤ)). x.answer.number) (play-done p.player piece p.samples z fits r.sound)
+  pub is_played : (played p piece).answer.number ≡ 0
+  is_played = ap (λ (x : Outcome Played (List ℤ)). x.answer.number) (play_done p.player piece p.samples z fits r.sound)
 
-  pub stays-ready : Ready (onward p piece)
+  pub stays_ready : Ready (onward p piece)
   unfolding onward
-  stays-ready =
-      let done = play-done p.player piece p.samples z fits r.sound in
-      let from = decoderFor p.player (readCall piece) in
-      let heard = samplesOf mode from (octetsIn piece) in
-      let n = samples-length mode from (octetsIn piece) in
-      let m = octets-length piece z in
-      let l = length-append heard (drop (2 * (readCall piece).count) p.samples) in
-      let k = length-drop (2 * (readCall piece).count) p.samples in
+  stays_ready =
+      let done = play_done p.player piece p.samples z fits r.sound in
+      let from = decoder_for p.player (read_call piece) in
+      let heard = samples_of mode from (octets_in piece) in
+      let n = samples_length mode from (octets_in piece) in
+      let m = octets_length piece z in
+      let l = length-append heard (drop (2 * (read_call piece).count) p.samples) in
+      let k = length-drop (2 * (read_call piece).count) p.samples in
       let same = ap (λ (x : Outcome Played (List ℤ)). length x.left) done in
       record {
-        sound = ap (λ (x : Outcome Played (List ℤ)). goodDecoder x.answer.next.decoder) done
-            ∙ decoder-run-good mode from (octetsIn piece) (start-good p.player (readCall piece) r.sound);
+        sound = ap (λ (x : Outcome Played (List ℤ)). good_decoder x.answer.next.decoder) done
+            ∙ decoder_run_good mode from (octets_in piece) (start_good p.player (read_call piece) r.sound);
         room = omega (arith, fits, r.room);
       }
 
-pub all-played : (p : Playing) (pieces : List (List ℕ)) → Ready p → AllRead pieces → AllPlayed p pieces
+pub all_played : (p : Playing) (pieces : List (List ℕ)) → Ready p → AllRead pieces → AllPlayed p pieces
 unfolding AllRead AllPlayed
-all-played p [] r a = tt
-all-played p (piece ∷ rest) r a = (is-played p piece a.0 r, all-played (onward p piece) rest (stays-ready p piece a.0 r) a.1)
+all_played p [] r a = tt
+all_played p (piece ∷ rest) r a = (is_played p piece a.0 r, all_played (onward p piece) rest (stays_ready p piece a.0 r) a.1)
 
 -- after blocks that read well it is ready for more
-pub ready-after : (p : Playing) (pieces : List (List ℕ)) → Ready p → AllRead pieces → Ready (after p pieces)
+pub ready_after : (p : Playing) (pieces : List (List ℕ)) → Ready p → AllRead pieces → Ready (after p pieces)
 unfolding after AllRead
-ready-after p [] r a = r
-ready-after p (piece ∷ rest) r a = ready-after (onward p piece) rest (stays-ready p piece a.0 r) a.1
+ready_after p [] r a = r
+ready_after p (piece ∷ rest) r a = ready_after (onward p piece) rest (stays_ready p piece a.0 r) a.1
 
 -- ---- from the start of a recording
 
 module _ (samples : List ℤ) (room : 960 ≤ length samples) where
-  pub fresh-ready : Ready (fresh samples)
-  unfolding startPlayer
-  fresh-ready = record { sound = decoder-reset-good; room = room }
+  pub fresh_ready : Ready (fresh samples)
+  unfolding start_player
+  fresh_ready = record { sound = decoder_reset_good; room = room }
 
   -- nothing but reading refuses a block of a recording
-  pub read-is-played : (pieces : List (List ℕ)) → AllRead pieces → AllPlayed (fresh samples) pieces
-  read-is-played pieces = all-played (fresh samples) pieces fresh-ready
+  pub read_is_played : (pieces : List (List ℕ)) → AllRead pieces → AllPlayed (fresh samples) pieces
+  read_is_played pieces = all_played (fresh samples) pieces fresh_ready
 
   -- THE THEOREM. Blocks that read well give, take by take, the samples of that take decoded alone from reset; the record is the last's
-  pub read-by-takes : (pieces : List (List ℕ)) → AllRead pieces
-      → (heard (fresh samples) pieces ≡ flat_map heardAlone (takes pieces))
-      × ((after (fresh samples) pieces).player.decoder ≡ leftBy resetDecoder (takes pieces))
-  unfolding startPlayer decoderFor afresh heard after leftBy takes flat_map
-  read-by-takes [] read = (refl, refl)
-  read-by-takes (piece ∷ rest) read =
-      let played = read-is-played (piece ∷ rest) read in (
-        samples-by-takes (fresh samples) piece rest played ∙ all-alone (takes (piece ∷ rest)),
-        record-by-takes (fresh samples) piece rest played,
+  pub read_by_takes : (pieces : List (List ℕ)) → AllRead pieces
+      → (heard (fresh samples) pieces ≡ flat_map heard_alone (takes pieces))
+      × ((after (fresh samples) pieces).player.decoder ≡ left_by reset_decoder (takes pieces))
+  unfolding start_player decoder_for afresh heard after left_by takes flat_map
+  read_by_takes [] read = (refl, refl)
+  read_by_takes (piece ∷ rest) read =
+      let played = read_is_played (piece ∷ rest) read in (
+        samples_by_takes (fresh samples) piece rest played ∙ all_alone (takes (piece ∷ rest)),
+        record_by_takes (fresh samples) piece rest played,
       )
 
   -- one take, then, is one run
-  pub one-take-is-one-run : (piece : List ℕ) (rest : List (List ℕ)) → AllRead (piece ∷ rest) → GoOn (readCall piece).take rest
-      → (heard (fresh samples) (piece ∷ rest) ≡ samplesRun resetDecoder (allTold (piece ∷ rest)))
-      × ((after (fresh samples) (piece ∷ rest)).player.decoder ≡ decoderRun resetDecoder (allTold (piece ∷ rest)))
-  unfolding leftBy flat_map
-  one-take-is-one-run piece rest read on =
-      let all = rw (one-take piece rest on) at (read-by-takes (piece ∷ rest) read) in
-      (all.0 ∙ append-nil (heardAlone (piece ∷ rest)), all.1)
+  pub one_take_is_one_run : (piece : List ℕ) (rest : List (List ℕ)) → AllRead (piece ∷ rest) → GoOn (read_call piece).take rest
+      → (heard (fresh samples) (piece ∷ rest) ≡ samples_run reset_decoder (all_told (piece ∷ rest)))
+      × ((after (fresh samples) (piece ∷ rest)).player.decoder ≡ decoder_run reset_decoder (all_told (piece ∷ rest)))
+  unfolding left_by flat_map
+  one_take_is_one_run piece rest read on =
+      let all = rw (one_take piece rest on) at (read_by_takes (piece ∷ rest) read) in
+      (all.0 ∙ append-nil (heard_alone (piece ∷ rest)), all.1)

@@ -2,11 +2,11 @@
 -- Assumes nothing.
 use Rattle.std.specs.Prelude.{Bool, true, false, cond, not, ◌||◌, List, ◌++◌, ℕ, ◌-◌, ◌*◌, eqb, ltb, ℤ, pos, length, get_or, take, drop}
 use Rattle.laws.specs.Outcome.{Outcome}
-use Rattle.g722.specs.Records.{goodDecoder, resetDecoder}
+use Rattle.g722.specs.Records.{good_decoder, reset_decoder}
 use Rattle.g722.specs.Decoding.{decoded}
 use Rattle.g722.specs.declared.Decoded.{Decoded}
 use Rattle.g722.specs.declared.Decoder.{Decoder}
-use Rattle.block.specs.Calls.{readCall}
+use Rattle.block.specs.Calls.{read_call}
 use Rattle.block.specs.declared.BlockRead.{BlockRead}
 use Rattle.playing.specs.declared.Played.{Played}
 use Rattle.playing.specs.declared.Player.{Player}
@@ -14,8 +14,8 @@ use Rattle.playing.specs.declared.Player.{Player}
 -- ---- where a take begins
 
 -- before the first block: the decoder at reset, and no take yet
-unfoldable pub startPlayer : Player
-startPlayer = record { decoder = resetDecoder; begun = false; take = 0 }
+unfoldable pub start_player : Player
+start_player = record { decoder = reset_decoder; begun = false; take = 0 }
 
 -- a block after one of this take begins a take if it is numbered 0, or if it is of another take
 unfoldable pub begins : ℕ → BlockRead → Bool
@@ -26,14 +26,14 @@ unfoldable pub afresh : Player → BlockRead → Bool
 afresh p b = not p.begun || begins p.take b
 
 -- where a take begins, the decoder is reset before the block's octets; else they are decoded from where the block before left it
-unfoldable pub decoderFor : Player → BlockRead → Decoder
-decoderFor p b = cond (afresh p b) resetDecoder p.decoder
+unfoldable pub decoder_for : Player → BlockRead → Decoder
+decoder_for p b = cond (afresh p b) reset_decoder p.decoder
 
 -- ---- a block
 
 -- a refusal gives the player's record back as it came, and 0 in every other field
-abbrev pub notPlayed : ℕ → Player → Played
-notPlayed number p =
+abbrev pub not_played : ℕ → Player → Played
+not_played number p =
     record { number = number; index = 0; next = p; take = 0; block = 0; mode = 0; count = 0; first = pos 0; last = pos 0; limited = 0 }
 
 -- what is said of a block that was played, from the decoder's answer and the samples; the player keeps the block's take
@@ -53,20 +53,20 @@ reported b done samples =
     }
 
 -- the octets of a block, from byte 12
-abbrev pub octetsIn : List ℕ → List ℕ
-octetsIn b = take (readCall b).count (drop 12 b)
+abbrev pub octets_in : List ℕ → List ℕ
+octets_in b = take (read_call b).count (drop 12 b)
 
 -- octets decoded from a record, in the mode of their block, into the front of the samples; those behind stay
-unfoldable pub playedFrom : Decoder → BlockRead → List ℕ → List ℤ → Outcome Played (List ℤ)
-playedFrom d b octets rest =
+unfoldable pub played_from : Decoder → BlockRead → List ℕ → List ℤ → Outcome Played (List ℤ)
+played_from d b octets rest =
     let done = decoded b.mode d octets in
     record { answer = reported b done.answer (done.left ++ rest); left = done.left ++ rest }
 
 -- reading's refusals, 6, 7 and 8, then 3 where the samples are too few for the octets, then 2 where the record is broken, even if the
 -- block begins a take and does not go on from it
-unfoldable pub playCall : Player → List ℕ → List ℤ → Outcome Played (List ℤ)
-playCall p b samples =
-    cond (not (eqb (readCall b).number 0)) (record { answer = notPlayed (readCall b).number p; left = samples })
-    (cond (ltb (length samples) (2 * (readCall b).count)) (record { answer = notPlayed 3 p; left = samples })
-    (cond (not (goodDecoder p.decoder)) (record { answer = notPlayed 2 p; left = samples })
-    (playedFrom (decoderFor p (readCall b)) (readCall b) (octetsIn b) (drop (2 * (readCall b).count) samples))))
+unfoldable pub play_call : Player → List ℕ → List ℤ → Outcome Played (List ℤ)
+play_call p b samples =
+    cond (not (eqb (read_call b).number 0)) (record { answer = not_played (read_call b).number p; left = samples })
+    (cond (ltb (length samples) (2 * (read_call b).count)) (record { answer = not_played 3 p; left = samples })
+    (cond (not (good_decoder p.decoder)) (record { answer = not_played 2 p; left = samples })
+    (played_from (decoder_for p (read_call b)) (read_call b) (octets_in b) (drop (2 * (read_call b).count) samples))))

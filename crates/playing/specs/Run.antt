@@ -6,12 +6,12 @@ use Rattle.std.proofs.Common.{◌∙◌, take_at}
 use Rattle.std.proofs.Math.ListN.{take}
 use Rattle.laws.specs.Outcome.{Outcome}
 use Rattle.g722.specs.Arithmetic.{overloads}
-use Rattle.g722.specs.Decoding.{samplesInFull, samplesOf}
+use Rattle.g722.specs.Decoding.{samples_in_full, samples_of}
 use Rattle.g722.specs.declared.Decoder.{Decoder}
-use Rattle.facts.specs.Told.{Told, decoderRun, samplesRun, marked, decoder-run, samples-run, samples-length}
-use Rattle.block.specs.Calls.{readCall}
-use Rattle.playing.specs.Play.{startPlayer, decoderFor, octetsIn, playCall}
-use Rattle.playing.specs.Played.{octets-length, play-heard, play-done}
+use Rattle.facts.specs.Told.{Told, decoder_run, samples_run, marked, decoder_run_lem, samples_run_lem, samples_length}
+use Rattle.block.specs.Calls.{read_call}
+use Rattle.playing.specs.Play.{start_player, decoder_for, octets_in, play_call}
+use Rattle.playing.specs.Played.{octets_length, play_heard, play_done}
 use Rattle.playing.specs.declared.Played.{Played}
 use Rattle.playing.specs.declared.Player.{Player}
 
@@ -24,11 +24,11 @@ pub record Playing : Type 0 where
 
 -- before the first block
 abbrev pub fresh : List ℤ → Playing
-fresh samples = record { player = startPlayer; samples = samples }
+fresh samples = record { player = start_player; samples = samples }
 
 -- a piece is played from there, and leaves it so
 abbrev pub played : Playing → List ℕ → Outcome Played (List ℤ)
-played p piece = playCall p.player piece p.samples
+played p piece = play_call p.player piece p.samples
 
 unfoldable pub onward : Playing → List ℕ → Playing
 onward p piece = record { player = (played p piece).answer.next; samples = (played p piece).left }
@@ -49,37 +49,37 @@ after p (piece ∷ rest) = after (onward p piece) rest
 
 -- the octets of a block, each with the mode of its block, and those of several
 abbrev pub told : List ℕ → List Told
-told piece = marked (readCall piece).mode (octetsIn piece)
+told piece = marked (read_call piece).mode (octets_in piece)
 
-unfoldable pub allTold : List (List ℕ) → List Told
-allTold [] = []
-allTold (piece ∷ rest) = told piece ++ allTold rest
+unfoldable pub all_told : List (List ℕ) → List Told
+all_told [] = []
+all_told (piece ∷ rest) = told piece ++ all_told rest
 
 -- ---- a block that was played is a run from where it starts
 
 module _ (p : Playing) (piece : List ℕ) (z : (played p piece).answer.number ≡ 0) where
   abbrev from : Decoder
-  from = decoderFor p.player (readCall piece)
+  from = decoder_for p.player (read_call piece)
 
-  pub next-is : (onward p piece).player ≡ record { decoder = decoderRun from (told piece); begun = true; take = (readCall piece).take }
+  pub next_is : (onward p piece).player ≡ record { decoder = decoder_run from (told piece); begun = true; take = (read_call piece).take }
   unfolding onward
-  next-is =
-      let h = play-heard p.player piece p.samples z in
-      ap (λ (x : Outcome Played (List ℤ)). x.answer.next) (play-done p.player piece p.samples h.read h.room h.sound)
-      ∙ ap (λ (d : Decoder). record { decoder = d; begun = true; take = (readCall piece).take })
-      (decoder-run (readCall piece).mode from (octetsIn piece))
+  next_is =
+      let h = play_heard p.player piece p.samples z in
+      ap (λ (x : Outcome Played (List ℤ)). x.answer.next) (play_done p.player piece p.samples h.read h.room h.sound)
+      ∙ ap (λ (d : Decoder). record { decoder = d; begun = true; take = (read_call piece).take })
+      (decoder_run_lem (read_call piece).mode from (octets_in piece))
 
-  pub front-is : take (2 * (played p piece).answer.count) (played p piece).left ≡ samplesRun from (told piece)
-  front-is =
-      let h = play-heard p.player piece p.samples z in
-      let n = octets-length piece h.read in
-      let l : length (samplesOf (readCall piece).mode from (octetsIn piece)) ≡ 2 * (readCall piece).count =
-      samples-length (readCall piece).mode from (octetsIn piece) ∙ ap (λ (k : ℕ). 2 * k) n in
-      rw (play-done p.player piece p.samples h.read h.room h.sound) (take_at _ _ (2 * (readCall piece).count) l)
-      ∙ samples-run (readCall piece).mode from (octetsIn piece)
+  pub front_is : take (2 * (played p piece).answer.count) (played p piece).left ≡ samples_run from (told piece)
+  front_is =
+      let h = play_heard p.player piece p.samples z in
+      let n = octets_length piece h.read in
+      let l : length (samples_of (read_call piece).mode from (octets_in piece)) ≡ 2 * (read_call piece).count =
+      samples_length (read_call piece).mode from (octets_in piece) ∙ ap (λ (k : ℕ). 2 * k) n in
+      rw (play_done p.player piece p.samples h.read h.room h.sound) (take_at _ _ (2 * (read_call piece).count) l)
+      ∙ samples_run_lem (read_call piece).mode from (octets_in piece)
 
   -- and the count that is said of it is that of the samples which limiting changed
-  pub limited-is : (played p piece).answer.limited ≡ overloads (samplesInFull (readCall piece).mode from (octetsIn piece))
-  limited-is =
-      let h = play-heard p.player piece p.samples z in
-      ap (λ (x : Outcome Played (List ℤ)). x.answer.limited) (play-done p.player piece p.samples h.read h.room h.sound)
+  pub limited_is : (played p piece).answer.limited ≡ overloads (samples_in_full (read_call piece).mode from (octets_in piece))
+  limited_is =
+      let h = play_heard p.player piece p.samples z in
+      ap (λ (x : Outcome Played (List ℤ)). x.answer.limited) (play_done p.player piece p.samples h.read h.room h.sound)

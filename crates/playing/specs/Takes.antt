@@ -3,141 +3,141 @@
 use Rattle.std.specs.Prelude.{◌≡◌, refl, Bool, false, cond, not, ℕ, ℤ}
 use Rattle.std.proofs.Common.{sym, ap, ap₂, ◌∙◌, eq-eqb, ne_eqb}
 use mathlib.Core.List.{List, [], ◌∷◌, ◌++◌, append-nil, append_assoc, flat_map}
-use Rattle.laws.specs.Order.{by-test}
-use Rattle.g722.specs.Records.{resetDecoder}
+use Rattle.laws.specs.Order.{by_test}
+use Rattle.g722.specs.Records.{reset_decoder}
 use Rattle.g722.specs.declared.Decoder.{Decoder}
-use Rattle.facts.specs.Told.{decoderRun, samplesRun, decoder-join, samples-join}
-use Rattle.block.specs.Calls.{readCall}
-use Rattle.playing.specs.Play.{begins, afresh, decoderFor}
-use Rattle.playing.specs.Run.{Playing, played, onward, AllPlayed, heard, after, told, allTold, next-is, front-is}
+use Rattle.facts.specs.Told.{decoder_run, samples_run, decoder_join, samples_join}
+use Rattle.block.specs.Calls.{read_call}
+use Rattle.playing.specs.Play.{begins, afresh, decoder_for}
+use Rattle.playing.specs.Run.{Playing, played, onward, AllPlayed, heard, after, told, all_told, next_is, front_is}
 use Rattle.playing.specs.declared.Player.{Player}
 
 -- ---- the takes of a recording
 
 -- whether the take of a block goes on after it
-unfoldable pub goesOn : List ℕ → List (List ℕ) → Bool
-goesOn piece [] = false
-goesOn piece (next ∷ rest) = not (begins (readCall piece).take (readCall next))
+unfoldable pub goes_on : List ℕ → List (List ℕ) → Bool
+goes_on piece [] = false
+goes_on piece (next ∷ rest) = not (begins (read_call piece).take (read_call next))
 
 -- a block put in front of the first take
-unfoldable pub inFront : List ℕ → List (List (List ℕ)) → List (List (List ℕ))
-inFront piece [] = (piece ∷ []) ∷ []
-inFront piece (first ∷ others) = (piece ∷ first) ∷ others
+unfoldable pub in_front : List ℕ → List (List (List ℕ)) → List (List (List ℕ))
+in_front piece [] = (piece ∷ []) ∷ []
+in_front piece (first ∷ others) = (piece ∷ first) ∷ others
 
 -- the recording, cut before each block that begins a take
 unfoldable pub takes : List (List ℕ) → List (List (List ℕ))
 takes [] = []
-takes (piece ∷ rest) = cond (goesOn piece rest) (inFront piece (takes rest)) ((piece ∷ []) ∷ takes rest)
+takes (piece ∷ rest) = cond (goes_on piece rest) (in_front piece (takes rest)) ((piece ∷ []) ∷ takes rest)
 
 -- put together again they are the recording
-in-front : (piece : List ℕ) (ts : List (List (List ℕ)))
-    → flat_map (λ (t : List (List ℕ)). t) (inFront piece ts) ≡ piece ∷ flat_map (λ t. t) ts
-unfolding inFront flat_map
-in-front piece [] = refl
-in-front piece (t ∷ ts) = refl
+in_front_lem : (piece : List ℕ) (ts : List (List (List ℕ)))
+    → flat_map (λ (t : List (List ℕ)). t) (in_front piece ts) ≡ piece ∷ flat_map (λ t. t) ts
+unfolding in_front flat_map
+in_front_lem piece [] = refl
+in_front_lem piece (t ∷ ts) = refl
 
-pub takes-together : (pieces : List (List ℕ)) → flat_map (λ (t : List (List ℕ)). t) (takes pieces) ≡ pieces
+pub takes_together : (pieces : List (List ℕ)) → flat_map (λ (t : List (List ℕ)). t) (takes pieces) ≡ pieces
 unfolding takes flat_map
-takes-together [] = refl
-takes-together (piece ∷ rest) =
-    by-test (goesOn piece rest)
-    (λ e. rw e (in-front piece (takes rest) ∙ ap (λ (l : List (List ℕ)). piece ∷ l) (takes-together rest)))
-    (λ e. rw e (ap (λ (l : List (List ℕ)). piece ∷ l) (takes-together rest)))
+takes_together [] = refl
+takes_together (piece ∷ rest) =
+    by_test (goes_on piece rest)
+    (λ e. rw e (in_front_lem piece (takes rest) ∙ ap (λ (l : List (List ℕ)). piece ∷ l) (takes_together rest)))
+    (λ e. rw e (ap (λ (l : List (List ℕ)). piece ∷ l) (takes_together rest)))
 
 -- ---- each decoded alone
 
 -- the samples of a take alone, from reset
-abbrev pub heardAlone : List (List ℕ) → List ℤ
-heardAlone blocks = samplesRun resetDecoder (allTold blocks)
+abbrev pub heard_alone : List (List ℕ) → List ℤ
+heard_alone blocks = samples_run reset_decoder (all_told blocks)
 
 -- the samples of takes, the first from a record, each other alone
-unfoldable pub heardIn : Decoder → List (List (List ℕ)) → List ℤ
-heardIn d [] = []
-heardIn d (first ∷ others) = samplesRun d (allTold first) ++ flat_map heardAlone others
+unfoldable pub heard_in : Decoder → List (List (List ℕ)) → List ℤ
+heard_in d [] = []
+heard_in d (first ∷ others) = samples_run d (all_told first) ++ flat_map heard_alone others
 
 -- from reset the first is alone too
-pub all-alone : (ts : List (List (List ℕ))) → heardIn resetDecoder ts ≡ flat_map heardAlone ts
-unfolding heardIn flat_map
-all-alone [] = refl
-all-alone (t ∷ ts) = refl
+pub all_alone : (ts : List (List (List ℕ))) → heard_in reset_decoder ts ≡ flat_map heard_alone ts
+unfolding heard_in flat_map
+all_alone [] = refl
+all_alone (t ∷ ts) = refl
 
 -- the record after the last
-unfoldable pub leftBy : Decoder → List (List (List ℕ)) → Decoder
-leftBy d [] = d
-leftBy d (only ∷ []) = decoderRun d (allTold only)
-leftBy d (first ∷ second ∷ others) = leftBy resetDecoder (second ∷ others)
+unfoldable pub left_by : Decoder → List (List (List ℕ)) → Decoder
+left_by d [] = d
+left_by d (only ∷ []) = decoder_run d (all_told only)
+left_by d (first ∷ second ∷ others) = left_by reset_decoder (second ∷ others)
 
-heard-on : (d : Decoder) (piece : List ℕ) (ts : List (List (List ℕ)))
-    → samplesRun d (told piece) ++ heardIn (decoderRun d (told piece)) ts ≡ heardIn d (inFront piece ts)
-unfolding heardIn inFront allTold flat_map
-heard-on d piece [] = ap (λ l. samplesRun d l ++ []) (sym (append-nil (told piece)))
-heard-on d piece (t ∷ ts) =
-    sym (append_assoc (samplesRun d (told piece)) (samplesRun (decoderRun d (told piece)) (allTold t)) (flat_map heardAlone ts))
-    ∙ ap (λ (l : List ℤ). l ++ flat_map heardAlone ts) (sym (samples-join d (told piece) (allTold t)))
+heard_on : (d : Decoder) (piece : List ℕ) (ts : List (List (List ℕ)))
+    → samples_run d (told piece) ++ heard_in (decoder_run d (told piece)) ts ≡ heard_in d (in_front piece ts)
+unfolding heard_in in_front all_told flat_map
+heard_on d piece [] = ap (λ l. samples_run d l ++ []) (sym (append-nil (told piece)))
+heard_on d piece (t ∷ ts) =
+    sym (append_assoc (samples_run d (told piece)) (samples_run (decoder_run d (told piece)) (all_told t)) (flat_map heard_alone ts))
+    ∙ ap (λ (l : List ℤ). l ++ flat_map heard_alone ts) (sym (samples_join d (told piece) (all_told t)))
 
-left-on : (d : Decoder) (piece : List ℕ) (ts : List (List (List ℕ))) → leftBy (decoderRun d (told piece)) ts ≡ leftBy d (inFront piece ts)
-unfolding leftBy inFront allTold
-left-on d piece [] = ap (decoderRun d) (sym (append-nil (told piece)))
-left-on d piece (t ∷ []) = sym (decoder-join d (told piece) (allTold t))
-left-on d piece (t ∷ u ∷ ts) = refl
+left_on : (d : Decoder) (piece : List ℕ) (ts : List (List (List ℕ))) → left_by (decoder_run d (told piece)) ts ≡ left_by d (in_front piece ts)
+unfolding left_by in_front all_told
+left_on d piece [] = ap (decoder_run d) (sym (append-nil (told piece)))
+left_on d piece (t ∷ []) = sym (decoder_join d (told piece) (all_told t))
+left_on d piece (t ∷ u ∷ ts) = refl
 
-left-last : (d : Decoder) (t : List (List ℕ)) (piece : List ℕ) (ts : List (List (List ℕ)))
-    → leftBy d (t ∷ inFront piece ts) ≡ leftBy resetDecoder (inFront piece ts)
-unfolding leftBy inFront
-left-last d t piece [] = refl
-left-last d t piece (u ∷ us) = refl
+left_last : (d : Decoder) (t : List (List ℕ)) (piece : List ℕ) (ts : List (List (List ℕ)))
+    → left_by d (t ∷ in_front piece ts) ≡ left_by reset_decoder (in_front piece ts)
+unfolding left_by in_front
+left_last d t piece [] = refl
+left_last d t piece (u ∷ us) = refl
 
-left-skips : (d : Decoder) (t : List (List ℕ)) (piece : List ℕ) (rest : List (List ℕ))
-    → leftBy d (t ∷ takes (piece ∷ rest)) ≡ leftBy resetDecoder (takes (piece ∷ rest))
-unfolding takes leftBy
-left-skips d t piece rest = by-test (goesOn piece rest) (λ e. rw e (left-last d t piece (takes rest))) (λ e. rw e)
+left_skips : (d : Decoder) (t : List (List ℕ)) (piece : List ℕ) (rest : List (List ℕ))
+    → left_by d (t ∷ takes (piece ∷ rest)) ≡ left_by reset_decoder (takes (piece ∷ rest))
+unfolding takes left_by
+left_skips d t piece rest = by_test (goes_on piece rest) (λ e. rw e (left_last d t piece (takes rest))) (λ e. rw e)
 
 -- ---- THE THEOREM
 
 -- where the block after one that was played starts
-start-next : (p : Playing) (piece : List ℕ) → (played p piece).answer.number ≡ 0 → (next : List ℕ)
-    → decoderFor (onward p piece).player (readCall next)
-    ≡ cond (begins (readCall piece).take (readCall next)) resetDecoder (decoderRun (decoderFor p.player (readCall piece)) (told piece))
-unfolding decoderFor afresh
-start-next p piece z next = ap (λ (q : Player). decoderFor q (readCall next)) (next-is p piece z)
+start_next : (p : Playing) (piece : List ℕ) → (played p piece).answer.number ≡ 0 → (next : List ℕ)
+    → decoder_for (onward p piece).player (read_call next)
+    ≡ cond (begins (read_call piece).take (read_call next)) reset_decoder (decoder_run (decoder_for p.player (read_call piece)) (told piece))
+unfolding decoder_for afresh
+start_next p piece z next = ap (λ (q : Player). decoder_for q (read_call next)) (next_is p piece z)
 
-pub samples-by-takes : (p : Playing) (piece : List ℕ) (rest : List (List ℕ)) → AllPlayed p (piece ∷ rest)
-    → heard p (piece ∷ rest) ≡ heardIn (decoderFor p.player (readCall piece)) (takes (piece ∷ rest))
-unfolding AllPlayed heard takes goesOn heardIn inFront allTold flat_map
-samples-by-takes p piece [] a =
-    ap (λ (l : List ℤ). l ++ []) (front-is p piece a.0) ∙ heard-on (decoderFor p.player (readCall piece)) piece []
-samples-by-takes p piece (next ∷ more) a =
-    let d = decoderFor p.player (readCall piece) in
+pub samples_by_takes : (p : Playing) (piece : List ℕ) (rest : List (List ℕ)) → AllPlayed p (piece ∷ rest)
+    → heard p (piece ∷ rest) ≡ heard_in (decoder_for p.player (read_call piece)) (takes (piece ∷ rest))
+unfolding AllPlayed heard takes goes_on heard_in in_front all_told flat_map
+samples_by_takes p piece [] a =
+    ap (λ (l : List ℤ). l ++ []) (front_is p piece a.0) ∙ heard_on (decoder_for p.player (read_call piece)) piece []
+samples_by_takes p piece (next ∷ more) a =
+    let d = decoder_for p.player (read_call piece) in
     let ts = takes (next ∷ more) in
-    ap₂ (λ (x y : List ℤ). x ++ y) (front-is p piece a.0)
-    (samples-by-takes (onward p piece) next more a.1 ∙ ap (λ (e : Decoder). heardIn e ts) (start-next p piece a.0 next))
-    ∙ by-test (begins (readCall piece).take (readCall next))
-    (λ e. rw e (ap₂ (λ l (m : List ℤ). samplesRun d l ++ m) (sym (append-nil (told piece))) (all-alone ts)))
-    (λ e. rw e (heard-on d piece ts))
+    ap₂ (λ (x y : List ℤ). x ++ y) (front_is p piece a.0)
+    (samples_by_takes (onward p piece) next more a.1 ∙ ap (λ (e : Decoder). heard_in e ts) (start_next p piece a.0 next))
+    ∙ by_test (begins (read_call piece).take (read_call next))
+    (λ e. rw e (ap₂ (λ l (m : List ℤ). samples_run d l ++ m) (sym (append-nil (told piece))) (all_alone ts)))
+    (λ e. rw e (heard_on d piece ts))
 
-pub record-by-takes : (p : Playing) (piece : List ℕ) (rest : List (List ℕ)) → AllPlayed p (piece ∷ rest)
-    → (after p (piece ∷ rest)).player.decoder ≡ leftBy (decoderFor p.player (readCall piece)) (takes (piece ∷ rest))
-unfolding AllPlayed after takes goesOn leftBy inFront
-record-by-takes p piece [] a =
-    ap (λ (q : Player). q.decoder) (next-is p piece a.0) ∙ left-on (decoderFor p.player (readCall piece)) piece []
-record-by-takes p piece (next ∷ more) a =
-    let d = decoderFor p.player (readCall piece) in
+pub record_by_takes : (p : Playing) (piece : List ℕ) (rest : List (List ℕ)) → AllPlayed p (piece ∷ rest)
+    → (after p (piece ∷ rest)).player.decoder ≡ left_by (decoder_for p.player (read_call piece)) (takes (piece ∷ rest))
+unfolding AllPlayed after takes goes_on left_by in_front
+record_by_takes p piece [] a =
+    ap (λ (q : Player). q.decoder) (next_is p piece a.0) ∙ left_on (decoder_for p.player (read_call piece)) piece []
+record_by_takes p piece (next ∷ more) a =
+    let d = decoder_for p.player (read_call piece) in
     let ts = takes (next ∷ more) in
-    record-by-takes (onward p piece) next more a.1 ∙ ap (λ (e : Decoder). leftBy e ts) (start-next p piece a.0 next)
-    ∙ by-test (begins (readCall piece).take (readCall next))
-    (λ e. rw e (sym (left-skips d (piece ∷ []) next more)))
-    (λ e. rw e (left-on d piece ts))
+    record_by_takes (onward p piece) next more a.1 ∙ ap (λ (e : Decoder). left_by e ts) (start_next p piece a.0 next)
+    ∙ by_test (begins (read_call piece).take (read_call next))
+    (λ e. rw e (sym (left_skips d (piece ∷ []) next more)))
+    (λ e. rw e (left_on d piece ts))
 
 -- ---- one take
 
 -- blocks that go on with a take: each is of that take, and none is numbered 0
 unfoldable pub GoOn : ℕ → List (List ℕ) → Type 0
 GoOn number [] = Unit {0}
-GoOn number (piece ∷ rest) = ((readCall piece).take ≡ number) × ((readCall piece).block ≡ 0 → ⊥) × GoOn number rest
+GoOn number (piece ∷ rest) = ((read_call piece).take ≡ number) × ((read_call piece).block ≡ 0 → ⊥) × GoOn number rest
 
-pub one-take : (piece : List ℕ) (rest : List (List ℕ)) → GoOn (readCall piece).take rest → takes (piece ∷ rest) ≡ (piece ∷ rest) ∷ []
-unfolding takes goesOn GoOn begins inFront
-one-take piece [] g = refl
-one-take piece (next ∷ more) g =
-    rw (ne_eqb (readCall next).block 0 g.1, eq-eqb (readCall next).take (readCall piece).take g.0)
-    (ap (inFront piece) (one-take next more (rw (← g.0) at g.2)))
+pub one_take : (piece : List ℕ) (rest : List (List ℕ)) → GoOn (read_call piece).take rest → takes (piece ∷ rest) ≡ (piece ∷ rest) ∷ []
+unfolding takes goes_on GoOn begins in_front
+one_take piece [] g = refl
+one_take piece (next ∷ more) g =
+    rw (ne_eqb (read_call next).block 0 g.1, eq-eqb (read_call next).take (read_call piece).take g.0)
+    (ap (in_front piece) (one_take next more (rw (← g.0) at g.2)))

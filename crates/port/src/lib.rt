@@ -1,6 +1,6 @@
 // One port: its octet through the first step of decoding, and its octet out of the two sub-band coders.
 ghost use Rattle.std.specs.Prelude.{◌≡◌};
-ghost use Rattle.port.specs.Step.{heardOf, sentOf};
+ghost use Rattle.port.specs.Step.{heard_of, sent_of};
 
 use arith::changes;
 use g722::{Coder, Decoder, Limited};
@@ -17,7 +17,7 @@ pub struct Signals {
 
 // A port's octet, in the mode that it was told. The past pairs stay.
 pub fn heard(d: Decoder, told: u8, octet: u8) -> Signals
-    ensures { result ≡ heardOf d told octet }
+    ensures { result ≡ heard_of d told octet }
 {
     let low = d.low;
     let high = d.high;
@@ -49,7 +49,7 @@ pub struct Reply {
 
 // A port's octet for a low and a high sum. The past samples stay.
 pub fn sent(c: Coder, xl: Limited, xh: Limited) -> Reply
-    ensures { result ≡ sentOf c xl xh }
+    ensures { result ≡ sent_of c xl xh }
 {
     let low = c.low;
     let high = c.high;

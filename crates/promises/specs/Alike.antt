@@ -4,8 +4,8 @@
 use Rattle.std.specs.Prelude.{◌≡◌, cond, List, [], ◌∷◌, ◌++◌, eqb}
 use Rattle.std.proofs.Math.Path.{refl, ap}
 use Rattle.std.proofs.Common.{◌∙◌, eqb-true}
-use Rattle.laws.specs.Order.{by-test}
-use Rattle.promises.specs.Through.{Calls, through, answers, ofAccepted, lefts}
+use Rattle.laws.specs.Order.{by_test}
+use Rattle.promises.specs.Through.{Calls, through, answers, of_accepted, lefts}
 
 -- two lists, entry beside entry
 pub data Each {A : Type 0} (R : A → A → Type 0) : List A → List A → Type 0 where
@@ -17,18 +17,18 @@ module _ (C : Calls) (Like : C.Input → C.Input → Type 0)
     × (C.number (C.call s k).answer ≡ 0 → (C.call s k).left ≡ (C.call s j).left)) where
   open C use {State, Input, Answer, call, number, next}
 
-  pub answers-alike : {ks js : List Input} (s : State) → Each Like ks js → answers C s ks ≡ answers C s js
+  pub answers_alike : {ks js : List Input} (s : State) → Each Like ks js → answers C s ks ≡ answers C s js
   unfolding answers
-  answers-alike s none = refl
-  answers-alike s (more {x = k} {y = j} {xs = ks} a rest) =
+  answers_alike s none = refl
+  answers_alike s (more {x = k} {y = j} {xs = ks} a rest) =
       let e = (same s k j a).0 in
-      λ i. e i ∷ (ap (λ (x : Answer). answers C (next x) ks) e ∙ answers-alike _ rest) i
+      λ i. e i ∷ (ap (λ (x : Answer). answers C (next x) ks) e ∙ answers_alike _ rest) i
 
-  pub state-alike : {ks js : List Input} (s : State) → Each Like ks js → through C s ks ≡ through C s js
+  pub state_alike : {ks js : List Input} (s : State) → Each Like ks js → through C s ks ≡ through C s js
   unfolding through
-  state-alike s none = refl
-  state-alike s (more {x = k} {y = j} {xs = ks} a rest) =
-      ap (λ (x : Answer). through C (next x) ks) (same s k j a).0 ∙ state-alike _ rest
+  state_alike s none = refl
+  state_alike s (more {x = k} {y = j} {xs = ks} a rest) =
+      ap (λ (x : Answer). through C (next x) ks) (same s k j a).0 ∙ state_alike _ rest
 
   -- whatever is the same of like calls that are accepted
   module _ {Z : Type 0} (f : State → Input → List Z)
@@ -38,13 +38,13 @@ module _ (C : Calls) (Like : C.Input → C.Input → Type 0)
         → ◌≡◌ {A = List Z} (cond (eqb (number (call s k).answer) 0) (f s k) []) (cond (eqb (number (call s j).answer) 0) (f s j) [])
     counted s k j a =
         rw (← (same s k j a).0)
-        (by-test (eqb (number (call s k).answer) 0) (λ t. rw t (alike s k j a (eqb-true _ _ t))) (λ t. rw t))
+        (by_test (eqb (number (call s k).answer) 0) (λ t. rw t (alike s k j a (eqb-true _ _ t))) (λ t. rw t))
 
-    pub of-alike : {ks js : List Input} (s : State) → Each Like ks js → ofAccepted C f s ks ≡ ofAccepted C f s js
-    unfolding ofAccepted
-    of-alike s none = refl
-    of-alike s (more {x = k} {y = j} {xs = ks} a rest) =
-        λ i. counted s k j a i ++ (ap (λ (x : Answer). ofAccepted C f (next x) ks) (same s k j a).0 ∙ of-alike _ rest) i
+    pub of_alike : {ks js : List Input} (s : State) → Each Like ks js → of_accepted C f s ks ≡ of_accepted C f s js
+    unfolding of_accepted
+    of_alike s none = refl
+    of_alike s (more {x = k} {y = j} {xs = ks} a rest) =
+        λ i. counted s k j a i ++ (ap (λ (x : Answer). of_accepted C f (next x) ks) (same s k j a).0 ∙ of_alike _ rest) i
 
-  pub lefts-alike : {ks js : List Input} (s : State) → Each Like ks js → lefts C s ks ≡ lefts C s js
-  lefts-alike = of-alike (λ s k. (call s k).left) (λ s k j a. (same s k j a).1)
+  pub lefts_alike : {ks js : List Input} (s : State) → Each Like ks js → lefts C s ks ≡ lefts C s js
+  lefts_alike = of_alike (λ s k. (call s k).left) (λ s k j a. (same s k j a).1)

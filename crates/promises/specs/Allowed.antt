@@ -9,17 +9,17 @@ use store.Instance.{Heap¹, 𝓗¹, heap₀, model₀}
 use Rattle.std.specs.Borrow.{Bor}
 use denote.Triple.Clauses.{Ended, Lasts, at_exit}
 use Rattle.laws.specs.One.{Lifetimes, Input, Answer, Claims, Claim, Allows}
-use Rattle.g722.specs.Records.{resetCoder, resetDecoder}
-use Rattle.g722.specs.Coding.{codeCall}
-use Rattle.g722.specs.Decoding.{decodeCall}
-use Rattle.g722.specs.Cue.{putCall}
+use Rattle.g722.specs.Records.{reset_coder, reset_decoder}
+use Rattle.g722.specs.Coding.{code_call}
+use Rattle.g722.specs.Decoding.{decode_call}
+use Rattle.g722.specs.Cue.{put_call}
 use Rattle.g722.specs.declared.Coder.{Coder}
 use Rattle.g722.specs.declared.Decoder.{Decoder}
 use Rattle.promises.specs.Through.{Calls}
 use Rattle.promises.specs.Sequences.{CodeInput, DecodeInput}
 use Rattle.promises.specs.Carried.{Parcel}
 use Rattle.promises.specs.Made.{Made, MadeFrom}
-use Rattle.promises.specs.Running.{Reset-coder, Reset-decoder, Coding, Decoding, codings, decodings}
+use Rattle.promises.specs.Running.{Reset_coder, Reset_decoder, Coding, Decoding, codings, decodings}
 use Rattle.promises.specs.RunningData.{Putting, Puts, parcel}
 
 -- no atom of ghost state is asked anything
@@ -76,12 +76,12 @@ lent x = record { ref_ptr = (0, 0); now = x }
 
 code : Coder → CodeInput → Coding
 code c k =
-    let x = codeCall c k.samples k.octets in
+    let x = code_call c k.samples k.octets in
     record { lifetimes = ([], ([], tt)); samples = lent k.samples; octets = lent k.octets; answer = x.answer; left = x.left }
 
 decode : Decoder → DecodeInput → Decoding
 decode d k =
-    let x = decodeCall d k.told k.octets k.samples in
+    let x = decode_call d k.told k.octets k.samples in
     record {
       lifetimes = ([], ([], tt));
       told = k.told;
@@ -93,7 +93,7 @@ decode d k =
 
 put : Parcel → Putting
 put x =
-    let y = putCall x.mode x.octets x.bytes in
+    let y = put_call x.mode x.octets x.bytes in
     record {
       lifetimes = ([], ([], tt));
       mode = x.mode;
@@ -104,24 +104,24 @@ put x =
       samples = x.samples;
     }
 
-pub makes-code : Makes codings
+pub makes_code : Makes codings
 unfolding code lent
-makes-code = record { make = code; asked = λ c k. refl; may = λ c k. allowed (record { answer = refl; left = refl }) }
+makes_code = record { make = code; asked = λ c k. refl; may = λ c k. allowed (record { answer = refl; left = refl }) }
 
-pub makes-decode : Makes decodings
+pub makes_decode : Makes decodings
 unfolding decode lent
-makes-decode = record { make = decode; asked = λ d k. refl; may = λ d k. allowed (record { answer = refl; left = refl }) }
+makes_decode = record { make = decode; asked = λ d k. refl; may = λ d k. allowed (record { answer = refl; left = refl }) }
 
 -- THE THEOREMS: both ends can be reset, any calls can be made at each, and any data can be put in
-pub can-reset : Reset-coder resetCoder × Reset-decoder resetDecoder
-can-reset = (allowed refl, allowed refl)
+pub can_reset : Reset_coder reset_coder × Reset_decoder reset_decoder
+can_reset = (allowed refl, allowed refl)
 
-pub can-code : (c : Coder) (ks : List CodeInput) → (ms : List Coding) × MadeFrom codings c ms × (map codings.input ms ≡ ks)
-can-code = all_made codings makes-code
+pub can_code : (c : Coder) (ks : List CodeInput) → (ms : List Coding) × MadeFrom codings c ms × (map codings.input ms ≡ ks)
+can_code = all_made codings makes_code
 
-pub can-decode : (d : Decoder) (ks : List DecodeInput) → (ms : List Decoding) × MadeFrom decodings d ms × (map decodings.input ms ≡ ks)
-can-decode = all_made decodings makes-decode
+pub can_decode : (d : Decoder) (ks : List DecodeInput) → (ms : List Decoding) × MadeFrom decodings d ms × (map decodings.input ms ≡ ks)
+can_decode = all_made decodings makes_decode
 
-pub can-put : (x : Parcel) → (p : Putting) × Puts p × (parcel p ≡ x)
+pub can_put : (x : Parcel) → (p : Putting) × Puts p × (parcel p ≡ x)
 unfolding put lent
-can-put x = (put x, allowed (record { answer = refl; left = refl }), refl)
+can_put x = (put x, allowed (record { answer = refl; left = refl }), refl)

@@ -7,7 +7,7 @@ use Rattle.promises.specs.HearCalls.{hears}
 use Rattle.promises.specs.JoinCalls.{joining}
 use Rattle.promises.specs.StepGiven.{StepInput, hear, join}
 use Rattle.promises.specs.Made.{MadeFrom}
-use Rattle.promises.specs.RunningSteps.{Stepping, heard, joined, Steps, stepInput, steppings}
+use Rattle.promises.specs.RunningSteps.{Stepping, heard, joined, Steps, step_input, steppings}
 use Rattle.promises.specs.Allowed.{allowed, all_made, lent}
 
 step : Decoder → StepInput → Stepping
@@ -19,8 +19,8 @@ step d (hear k) =
       low = lent k.low;
       high = lent k.high;
       answer = (hears d k).answer;
-      left-low = (hears d k).left.0;
-      left-high = (hears d k).left.1;
+      left_low = (hears d k).left.0;
+      left_high = (hears d k).left.1;
     })
 step d (join k) =
     joined (record {
@@ -32,7 +32,7 @@ step d (join k) =
       left = (joining.call d k).left;
     })
 
-asked : (d : Decoder) (k : StepInput) → stepInput (step d k) ≡ k
+asked : (d : Decoder) (k : StepInput) → step_input (step d k) ≡ k
 unfolding step lent
 asked d (hear k) = refl
 asked d (join k) = refl
@@ -43,6 +43,6 @@ may d (hear k) = allowed (record { answer = refl; left = refl })
 may d (join k) = allowed (record { answer = refl; left = refl })
 
 -- THE THEOREM
-pub can-step : (d : Decoder) (ks : List StepInput)
+pub can_step : (d : Decoder) (ks : List StepInput)
     → (ms : List Stepping) × MadeFrom steppings d ms × (map steppings.input ms ≡ ks)
-can-step = all_made steppings (record { make = step; asked = asked; may = may })
+can_step = all_made steppings (record { make = step; asked = asked; may = may })

@@ -2,16 +2,16 @@
 -- do not hold for want of a case.
 -- Assumes nothing.
 use Rattle.std.specs.Prelude.{◌≡◌, refl, List, [], ◌∷◌, map}
-use Rattle.g722.specs.Records.{resetCoder, resetDecoder}
+use Rattle.g722.specs.Records.{reset_coder, reset_decoder}
 use Rattle.g722.specs.declared.Coder.{Coder}
 use Rattle.g722.specs.declared.Decoder.{Decoder}
 use Rattle.promises.specs.Through.{Calls}
 use Rattle.promises.specs.Sequences.{CodeInput, DecodeInput}
-use Rattle.promises.specs.Turns.{Turn, reset, more, onTurn}
+use Rattle.promises.specs.Turns.{Turn, reset, more, on_turn}
 use Rattle.promises.specs.Made.{Made}
 use Rattle.promises.specs.MadeTurns.{MadeTurns, none, afresh, called}
-use Rattle.promises.specs.Running.{Reset-coder, Reset-decoder, codings, decodings}
-use Rattle.promises.specs.Allowed.{Makes, makes-code, makes-decode, can-reset}
+use Rattle.promises.specs.Running.{Reset_coder, Reset_decoder, codings, decodings}
+use Rattle.promises.specs.Allowed.{Makes, makes_code, makes_decode, can_reset}
 
 -- turns that were made from a record, each as it was asked for, and the record that they end with
 pub record Turning {ℓ} {C : Calls} (M : Made C) (Reset : C.State → Type ℓ) (s : C.State) (ts : List (Turn C.Input))
@@ -19,33 +19,33 @@ pub record Turning {ℓ} {C : Calls} (M : Made C) (Reset : C.State → Type ℓ)
   pub turns : List (Turn M.Call)
   pub last : C.State
   pub made : MadeTurns M Reset s turns last
-  pub as-asked : map (onTurn M.input) turns ≡ ts
+  pub as_asked : map (on_turn M.input) turns ≡ ts
 
 module _ {ℓ} {C : Calls} (M : Made C) (can : Makes M) (Reset : C.State → Type ℓ) (start : C.State) (is-reset : Reset start) where
   open can use {make, asked, may}
 
-  pub all-turns : (s : C.State) (ts : List (Turn C.Input)) → Turning M Reset s ts
-  all-turns s [] = record { turns = []; last = s; made = none; as-asked = refl }
-  all-turns s (reset ∷ ts) =
-      let rest = all-turns start ts in
+  pub all_turns : (s : C.State) (ts : List (Turn C.Input)) → Turning M Reset s ts
+  all_turns s [] = record { turns = []; last = s; made = none; as_asked = refl }
+  all_turns s (reset ∷ ts) =
+      let rest = all_turns start ts in
       record {
         turns = reset ∷ rest.turns;
         last = rest.last;
         made = afresh is-reset rest.made;
-        as-asked = λ i. reset ∷ rest.as-asked i;
+        as_asked = λ i. reset ∷ rest.as_asked i;
       }
-  all-turns s (more k ∷ ts) =
-      let rest = all-turns (C.next (M.answer (make s k))) ts in
+  all_turns s (more k ∷ ts) =
+      let rest = all_turns (C.next (M.answer (make s k))) ts in
       record {
         turns = more (make s k) ∷ rest.turns;
         last = rest.last;
         made = called (may s k) rest.made;
-        as-asked = λ i. more (asked s k i) ∷ rest.as-asked i;
+        as_asked = λ i. more (asked s k i) ∷ rest.as_asked i;
       }
 
 -- THE THEOREMS: any calls and resets can be made at each end
-pub can-code-turns : (c : Coder) (ts : List (Turn CodeInput)) → Turning codings Reset-coder c ts
-can-code-turns = all-turns codings makes-code Reset-coder resetCoder can-reset.0
+pub can_code_turns : (c : Coder) (ts : List (Turn CodeInput)) → Turning codings Reset_coder c ts
+can_code_turns = all_turns codings makes_code Reset_coder reset_coder can_reset.0
 
-pub can-decode-turns : (d : Decoder) (ts : List (Turn DecodeInput)) → Turning decodings Reset-decoder d ts
-can-decode-turns = all-turns decodings makes-decode Reset-decoder resetDecoder can-reset.1
+pub can_decode_turns : (d : Decoder) (ts : List (Turn DecodeInput)) → Turning decodings Reset_decoder d ts
+can_decode_turns = all_turns decodings makes_decode Reset_decoder reset_decoder can_reset.1

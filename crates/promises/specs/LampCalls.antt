@@ -5,123 +5,123 @@ use Rattle.std.specs.Prelude.{◌≡◌, refl, List, ◌++◌, ◌+◌, ℤ, len
 use Rattle.std.proofs.Common.{sym, ap, ap₂, ◌∙◌, eqb-true}
 use Rattle.std.proofs.lemmas.Bool.{eqb-false}
 use Rattle.g722.specs.Arithmetic.{overloads}
-use Rattle.g722.specs.Quantise.{inForce}
-use Rattle.g722.specs.Coding.{splitInFull, coded}
-use Rattle.g722.specs.Decoding.{samplesInFull, decoded}
-use Rattle.g722.specs.Steps.{signalsOf, ylsOf, yhsOf, heard, joinedInFull, joinedAfter, joined}
+use Rattle.g722.specs.Quantise.{in_force}
+use Rattle.g722.specs.Coding.{split_in_full, coded}
+use Rattle.g722.specs.Decoding.{samples_in_full, decoded}
+use Rattle.g722.specs.Steps.{signals_of, yls_of, yhs_of, heard, joined_in_full, joined_after, joined}
 use Rattle.g722.specs.declared.Coder.{Coder}
 use Rattle.g722.specs.declared.Decoder.{Decoder}
-use Rattle.facts.specs.Overload.{placesOut, overloads-are, overloads-append}
+use Rattle.facts.specs.Overload.{places_out, overloads_are, overloads_append}
 use Rattle.facts.specs.CodedRuns as coded-runs
-use Rattle.facts.specs.Told.{fullRun, marked, full-run, full-join}
-use Rattle.promises.specs.Accepted.{coded-run, decoded-run, heard-run}
-use Rattle.promises.specs.Refused.{code-beside, decode-beside, hear-beside, join-beside}
-use Rattle.promises.specs.Through.{of-as-one-run}
-use Rattle.promises.specs.StepRuns.{received, received-marked, lowsRun, ylsRun, yls-marked, yls-cut, yhs-cut, lows, highs, full-cut}
-use Rattle.promises.specs.Sequences.{CodeInput, coding, coding-runs, samplesTaken, whole}
-use Rattle.promises.specs.Sequences.{DecodeInput, decoding, decoding-runs, octetsTaken}
-use Rattle.promises.specs.HearCalls.{HearInput, hearing, hearing-runs, octetsHeard}
-use Rattle.promises.specs.JoinCalls.{JoinInput, joining, joining-runs, joins, pairsTaken}
-use Rattle.promises.specs.Lamp.{Counts, countThrough, counts-add-up, two-rows}
+use Rattle.facts.specs.Told.{full_run, marked, full_run_lem, full_join}
+use Rattle.promises.specs.Accepted.{coded_run_lem, decoded_run, heard_run_lem}
+use Rattle.promises.specs.Refused.{code_beside, decode_beside, hear_beside, join_beside}
+use Rattle.promises.specs.Through.{of_as_one_run}
+use Rattle.promises.specs.StepRuns.{received, received_marked, lows_run, yls_run, yls_marked, yls_cut, yhs_cut, lows, highs, full_cut}
+use Rattle.promises.specs.Sequences.{CodeInput, coding, coding_runs, samples_taken, whole}
+use Rattle.promises.specs.Sequences.{DecodeInput, decoding, decoding_runs, octets_taken}
+use Rattle.promises.specs.HearCalls.{HearInput, hearing, hearing_runs, octets_heard}
+use Rattle.promises.specs.JoinCalls.{JoinInput, joining, joining_runs, joins, pairs_taken}
+use Rattle.promises.specs.Lamp.{Counts, count_through, counts_add_up, two_rows}
 
 -- ---- coding: XL and XH
 
-pub coding-counts : Counts coding
+pub coding_counts : Counts coding
 unfolding coded
-coding-counts =
+coding_counts =
     record {
       limited = λ a. a.limited;
-      full = λ c k. splitInFull c.past k.samples;
-      counted = λ c k e. ap (λ o. o.answer.limited) (coded-run c k.samples k.octets (eqb-true _ _ e));
-      dark = λ c k e. (code-beside c k.samples k.octets).dark (eqb-false _ _ e);
+      full = λ c k. split_in_full c.past k.samples;
+      counted = λ c k e. ap (λ o. o.answer.limited) (coded_run_lem c k.samples k.octets (eqb-true _ _ e));
+      dark = λ c k e. (code_beside c k.samples k.octets).dark (eqb-false _ _ e);
     }
 
-pub coded-count : (c : Coder) (ks : List CodeInput)
-    → countThrough coding coding-counts c ks ≡ overloads (splitInFull c.past (samplesTaken c ks))
-unfolding splitInFull coding-counts
-coded-count c ks =
-    counts-add-up coding coding-counts c ks
-    ∙ ap overloads (of-as-one-run coding coding-runs (λ b k. splitInFull b.past k.samples) (λ b s. splitInFull b.past s)
-    (λ b. refl) (λ b k e. refl) (λ b k e rest. coded-runs.full-join b rest (whole b k (eqb-true _ _ e))) c ks)
+pub coded_count : (c : Coder) (ks : List CodeInput)
+    → count_through coding coding_counts c ks ≡ overloads (split_in_full c.past (samples_taken c ks))
+unfolding split_in_full coding_counts
+coded_count c ks =
+    counts_add_up coding coding_counts c ks
+    ∙ ap overloads (of_as_one_run coding coding_runs (λ b k. split_in_full b.past k.samples) (λ b s. split_in_full b.past s)
+    (λ b. refl) (λ b k e. refl) (λ b k e rest. coded-runs.full_join b rest (whole b k (eqb-true _ _ e))) c ks)
 
 -- ---- decoding: its samples
 
-pub decoding-counts : Counts decoding
+pub decoding_counts : Counts decoding
 unfolding decoded
-decoding-counts =
+decoding_counts =
     record {
       limited = λ a. a.limited;
-      full = λ d k. samplesInFull (inForce k.told) d k.octets;
-      counted = λ d k e. ap (λ o. o.answer.limited) (decoded-run d k.told k.octets k.samples (eqb-true _ _ e));
-      dark = λ d k e. (decode-beside d k.told k.octets k.samples).dark (eqb-false _ _ e);
+      full = λ d k. samples_in_full (in_force k.told) d k.octets;
+      counted = λ d k e. ap (λ o. o.answer.limited) (decoded_run d k.told k.octets k.samples (eqb-true _ _ e));
+      dark = λ d k e. (decode_beside d k.told k.octets k.samples).dark (eqb-false _ _ e);
     }
 
-pub decoded-count : (d : Decoder) (ks : List DecodeInput)
-    → countThrough decoding decoding-counts d ks ≡ overloads (fullRun d (octetsTaken d ks))
-unfolding fullRun decoding-counts
-decoded-count d ks =
-    counts-add-up decoding decoding-counts d ks
-    ∙ ap overloads (of-as-one-run decoding decoding-runs (λ b k. samplesInFull (inForce k.told) b k.octets) fullRun
-    (λ b. refl) (λ b k e. full-run (inForce k.told) b k.octets)
-    (λ b k e rest. full-join b (marked (inForce k.told) k.octets) rest) d ks)
+pub decoded_count : (d : Decoder) (ks : List DecodeInput)
+    → count_through decoding decoding_counts d ks ≡ overloads (full_run d (octets_taken d ks))
+unfolding full_run decoding_counts
+decoded_count d ks =
+    counts_add_up decoding decoding_counts d ks
+    ∙ ap overloads (of_as_one_run decoding decoding_runs (λ b k. samples_in_full (in_force k.told) b k.octets) full_run
+    (λ b. refl) (λ b k e. full_run_lem (in_force k.told) b k.octets)
+    (λ b k e rest. full_join b (marked (in_force k.told) k.octets) rest) d ks)
 
 -- .. which is: how many output places there are at which the sample in full is out of range
-pub decoded-places : (d : Decoder) (ks : List DecodeInput)
-    → countThrough decoding decoding-counts d ks ≡ length (placesOut 0 (fullRun d (octetsTaken d ks)))
-decoded-places d ks = decoded-count d ks ∙ overloads-are (fullRun d (octetsTaken d ks))
+pub decoded_places : (d : Decoder) (ks : List DecodeInput)
+    → count_through decoding decoding_counts d ks ≡ length (places_out 0 (full_run d (octets_taken d ks)))
+decoded_places d ks = decoded_count d ks ∙ overloads_are (full_run d (octets_taken d ks))
 
 -- ---- the first step: its signals, low and high
 
-abbrev lowFull : Decoder → HearInput → List ℤ
-lowFull d k = ylsOf (inForce k.told) d.low k.octets
+abbrev low_full : Decoder → HearInput → List ℤ
+low_full d k = yls_of (in_force k.told) d.low k.octets
 
-abbrev highFull : Decoder → HearInput → List ℤ
-highFull d k = yhsOf d.high k.octets
+abbrev high_full : Decoder → HearInput → List ℤ
+high_full d k = yhs_of d.high k.octets
 
-pub hearing-counts : Counts hearing
+pub hearing_counts : Counts hearing
 unfolding heard
-hearing-counts =
+hearing_counts =
     record {
       limited = λ a. a.limited;
-      full = λ d k. lowFull d k ++ highFull d k;
+      full = λ d k. low_full d k ++ high_full d k;
       counted = λ d k e.
-          ap (λ o. o.answer.limited) (heard-run d k.told k.octets k.low k.high (eqb-true _ _ e))
-          ∙ sym (overloads-append (lowFull d k) (highFull d k));
-      dark = λ d k e. (hear-beside d k.told k.octets k.low k.high).dark (eqb-false _ _ e);
+          ap (λ o. o.answer.limited) (heard_run_lem d k.told k.octets k.low k.high (eqb-true _ _ e))
+          ∙ sym (overloads_append (low_full d k) (high_full d k));
+      dark = λ d k e. (hear_beside d k.told k.octets k.low k.high).dark (eqb-false _ _ e);
     }
 
-pub heard-count : (d : Decoder) (ks : List HearInput)
-    → countThrough hearing hearing-counts d ks
-    ≡ overloads (ylsRun d.low (octetsHeard d ks)) + overloads (yhsOf d.high (received (octetsHeard d ks)))
-unfolding ylsRun lowsRun yhsOf signalsOf hearing-counts
-heard-count d ks =
-    counts-add-up hearing hearing-counts d ks
-    ∙ two-rows hearing lowFull highFull d ks
+pub heard_count : (d : Decoder) (ks : List HearInput)
+    → count_through hearing hearing_counts d ks
+    ≡ overloads (yls_run d.low (octets_heard d ks)) + overloads (yhs_of d.high (received (octets_heard d ks)))
+unfolding yls_run lows_run yhs_of signals_of hearing_counts
+heard_count d ks =
+    counts_add_up hearing hearing_counts d ks
+    ∙ two_rows hearing low_full high_full d ks
     ∙ ap₂ (λ (l h : List ℤ). overloads l + overloads h)
-    (of-as-one-run hearing hearing-runs lowFull (λ b ts. ylsRun b.low ts) (λ b. refl)
-    (λ b k e. sym (yls-marked (inForce k.told) b.low k.octets)) (λ b k e rest. yls-cut b (hearing.given k) rest) d ks)
-    (of-as-one-run hearing hearing-runs highFull (λ b ts. yhsOf b.high (received ts)) (λ b. refl)
-    (λ b k e. ap (yhsOf b.high) (sym (received-marked (inForce k.told) k.octets)))
-    (λ b k e rest. yhs-cut b (hearing.given k) rest) d ks)
+    (of_as_one_run hearing hearing_runs low_full (λ b ts. yls_run b.low ts) (λ b. refl)
+    (λ b k e. sym (yls_marked (in_force k.told) b.low k.octets)) (λ b k e rest. yls_cut b (hearing.given k) rest) d ks)
+    (of_as_one_run hearing hearing_runs high_full (λ b ts. yhs_of b.high (received ts)) (λ b. refl)
+    (λ b k e. ap (yhs_of b.high) (sym (received_marked (in_force k.told) k.octets)))
+    (λ b k e rest. yhs_cut b (hearing.given k) rest) d ks)
 
 -- ---- the second step: its samples
 
-pub joining-counts : Counts joining
+pub joining_counts : Counts joining
 unfolding joined
-joining-counts =
+joining_counts =
     record {
       limited = λ a. a.limited;
-      full = λ d k. joinedInFull d.past (lows (joining.given k)) (highs (joining.given k));
+      full = λ d k. joined_in_full d.past (lows (joining.given k)) (highs (joining.given k));
       counted = λ d k e. ap (λ o. o.answer.limited) (joins d k (eqb-true _ _ e));
-      dark = λ d k e. (join-beside d k.low k.high k.samples).dark (eqb-false _ _ e);
+      dark = λ d k e. (join_beside d k.low k.high k.samples).dark (eqb-false _ _ e);
     }
 
-pub joined-count : (d : Decoder) (ks : List JoinInput)
-    → countThrough joining joining-counts d ks ≡ overloads (joinedInFull d.past (lows (pairsTaken d ks)) (highs (pairsTaken d ks)))
-unfolding joinedInFull joinedAfter joining-counts
-joined-count d ks =
-    counts-add-up joining joining-counts d ks
-    ∙ ap overloads (of-as-one-run joining joining-runs
-    (λ b k. joinedInFull b.past (lows (joining.given k)) (highs (joining.given k)))
-    (λ b hs. joinedInFull b.past (lows hs) (highs hs)) (λ b. refl) (λ b k e. refl)
-    (λ b k e rest. full-cut b.past (joining.given k) rest) d ks)
+pub joined_count : (d : Decoder) (ks : List JoinInput)
+    → count_through joining joining_counts d ks ≡ overloads (joined_in_full d.past (lows (pairs_taken d ks)) (highs (pairs_taken d ks)))
+unfolding joined_in_full joined_after joining_counts
+joined_count d ks =
+    counts_add_up joining joining_counts d ks
+    ∙ ap overloads (of_as_one_run joining joining_runs
+    (λ b k. joined_in_full b.past (lows (joining.given k)) (highs (joining.given k)))
+    (λ b hs. joined_in_full b.past (lows hs) (highs hs)) (λ b. refl) (λ b k e. refl)
+    (λ b k e rest. full_cut b.past (joining.given k) rest) d ks)

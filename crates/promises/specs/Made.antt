@@ -7,11 +7,11 @@ use Rattle.std.proofs.Common.{sym, ◌∙◌}
 use Rattle.std.proofs.Math.Bool.{cond}
 use mathlib.Core.List.{List, [], ◌∷◌, ◌++◌, map}
 use Rattle.laws.specs.Outcome.{Outcome, Does}
-use Rattle.promises.specs.Through.{Calls, Runs, through, answers, ofAccepted, taken, lefts, as-one-run, left-as-one-run}
+use Rattle.promises.specs.Through.{Calls, Runs, through, answers, of_accepted, taken, lefts, as_one_run, left_as_one_run}
 
 -- that something did what an outcome says is a mere fact, so it can be read off a contract
-pub does-prop : {A B : Type 0} {x : Outcome A B} {r : A} {l : B} → IsSet A → IsSet B → IsProp (Does x r l)
-does-prop {x} {r} {l} f g p q =
+pub does_prop : {A B : Type 0} {x : Outcome A B} {r : A} {l : B} → IsSet A → IsSet B → IsProp (Does x r l)
+does_prop {x} {r} {l} f g p q =
     λ i. record { answer = f r x.answer p.answer q.answer i; left = g l x.left p.left q.left i }
 
 -- a call that was made at an end: what it was handed, what it answered and left, and that its contract allows it from a record,
@@ -37,52 +37,52 @@ module _ {C : Calls} (M : Made C) where
   last_of s [] = s
   last_of s (k ∷ ks) = last_of (next (answer k)) ks
 
-  unfoldable pub ofDone : {Z : Type 0} → (Call → List Z) → List Call → List Z
-  ofDone f [] = []
-  ofDone f (k ∷ ks) = cond (eqb (number (answer k)) 0) (f k) [] ++ ofDone f ks
+  unfoldable pub of_done : {Z : Type 0} → (Call → List Z) → List Call → List Z
+  of_done f [] = []
+  of_done f (k ∷ ks) = cond (eqb (number (answer k)) 0) (f k) [] ++ of_done f ks
 
   -- what those calls were given, and what they left
   abbrev pub taken_of : List Call → List Given
-  taken_of ks = ofDone (λ k. given (input k)) ks
+  taken_of ks = of_done (λ k. given (input k)) ks
 
-  abbrev pub leftsOf : List Call → List Item
-  leftsOf ks = ofDone left ks
+  abbrev pub lefts_of : List Call → List Item
+  lefts_of ks = of_done left ks
 
   -- ---- what the definitions give for the same inputs
 
-  pub made-record : (s : State) (ks : List Call) → MadeFrom s ks → last_of s ks ≡ through C s (map input ks)
+  pub made_record : (s : State) (ks : List Call) → MadeFrom s ks → last_of s ks ≡ through C s (map input ks)
   unfolding MadeFrom last_of through
-  made-record s [] m = refl
-  made-record s (k ∷ ks) m =
-      made-record _ ks m.1 ∙ ap (λ (a : Answer). through C (next a) (map input ks)) (did s k m.0).answer
+  made_record s [] m = refl
+  made_record s (k ∷ ks) m =
+      made_record _ ks m.1 ∙ ap (λ (a : Answer). through C (next a) (map input ks)) (did s k m.0).answer
 
-  pub made-answers : (s : State) (ks : List Call) → MadeFrom s ks → map answer ks ≡ answers C s (map input ks)
+  pub made_answers : (s : State) (ks : List Call) → MadeFrom s ks → map answer ks ≡ answers C s (map input ks)
   unfolding MadeFrom answers
-  made-answers s [] m = refl
-  made-answers s (k ∷ ks) m =
+  made_answers s [] m = refl
+  made_answers s (k ∷ ks) m =
       let same = (did s k m.0).answer in
-      λ i. same i ∷ (made-answers _ ks m.1 ∙ ap (λ (a : Answer). answers C (next a) (map input ks)) same) i
+      λ i. same i ∷ (made_answers _ ks m.1 ∙ ap (λ (a : Answer). answers C (next a) (map input ks)) same) i
 
   pub made_of : {Z : Type 0} (f : Call → List Z) (g : State → Input → List Z) → ((s : State) (k : Call) → Allowed s k → f k ≡ g s (input k))
-      → (s : State) (ks : List Call) → MadeFrom s ks → ofDone f ks ≡ ofAccepted C g s (map input ks)
-  unfolding MadeFrom ofDone ofAccepted
+      → (s : State) (ks : List Call) → MadeFrom s ks → of_done f ks ≡ of_accepted C g s (map input ks)
+  unfolding MadeFrom of_done of_accepted
   made_of f g h s [] m = refl
   made_of f g h s (k ∷ ks) m =
       let same = (did s k m.0).answer in
       λ i. cond (eqb (number (same i)) 0) (h s k m.0 i) []
-      ++ (made_of f g h _ ks m.1 ∙ ap (λ (a : Answer). ofAccepted C g (next a) (map input ks)) same) i
+      ++ (made_of f g h _ ks m.1 ∙ ap (λ (a : Answer). of_accepted C g (next a) (map input ks)) same) i
 
-  pub made-left : (s : State) (ks : List Call) → MadeFrom s ks → leftsOf ks ≡ lefts C s (map input ks)
-  made-left = made_of left (λ t k. (C.call t k).left) (λ s k m. (did s k m).left)
+  pub made_left : (s : State) (ks : List Call) → MadeFrom s ks → lefts_of ks ≡ lefts C s (map input ks)
+  made_left = made_of left (λ t k. (C.call t k).left) (λ s k m. (did s k m).left)
 
-  pub made-taken : (s : State) (ks : List Call) → MadeFrom s ks → taken_of ks ≡ taken C s (map input ks)
-  made-taken = made_of (λ k. given (input k)) (λ t k. given k) (λ t k a. refl)
+  pub made_taken : (s : State) (ks : List Call) → MadeFrom s ks → taken_of ks ≡ taken C s (map input ks)
+  made_taken = made_of (λ k. given (input k)) (λ t k. given k) (λ t k a. refl)
 
   -- ---- so the calls that were made are one run too
 
   module _ (R : Runs C) (s : State) (ks : List Call) (m : MadeFrom s ks) where
-    pub made-as-one-run : last_of s ks ≡ after s (taken_of ks)
-    made-as-one-run = made-record s ks m ∙ as-one-run C R s (map input ks) ∙ ap (after s) (sym (made-taken s ks m))
+    pub made_as_one_run : last_of s ks ≡ after s (taken_of ks)
+    made_as_one_run = made_record s ks m ∙ as_one_run C R s (map input ks) ∙ ap (after s) (sym (made_taken s ks m))
 
-    pub made-left-as-one-run : leftsOf ks ≡ out s (taken_of ks)
-    made-left-as-one-run = made-left s ks m ∙ left-as-one-run C R s (map input ks) ∙ ap (out s) (sym (made-taken s ks m))
+    pub made_left_as_one_run : lefts_of ks ≡ out s (taken_of ks)
+    made_left_as_one_run = made_left s ks m ∙ left_as_one_run C R s (map input ks) ∙ ap (out s) (sym (made_taken s ks m))

@@ -6,7 +6,7 @@ use Rattle.std.proofs.Math.Path.{refl}
 use mathlib.Core.List.{List, [], ◌∷◌, ◌++◌}
 use Rattle.promises.specs.Through.{Calls}
 use Rattle.promises.specs.Made.{Made, MadeFrom, last_of}
-use Rattle.promises.specs.Turns.{Turn, reset, more, sinceAfter, since}
+use Rattle.promises.specs.Turns.{Turn, reset, more, since_after, since}
 
 module _ {ℓ} {C : Calls} (M : Made C) (Reset : C.State → Type ℓ) where
   open C use {State, next}
@@ -22,28 +22,28 @@ module _ {ℓ} {C : Calls} (M : Made C) (Reset : C.State → Type ℓ) where
   -- calls that were made from what a reset answered, and their last record
   pub record FromReset (ks : List Call) (u : State) : Type (2 ⊔ ℓ) where
     pub start : State
-    pub was-reset : Reset start
+    pub was_reset : Reset start
     pub made : MadeFrom M start ks
     pub last : last_of M start ks ≡ u
 
-  made-join : (s : State) (ks : List Call) (k : Call) → MadeFrom M s ks → Allowed (last_of M s ks) k → MadeFrom M s (ks ++ (k ∷ []))
+  made_join : (s : State) (ks : List Call) (k : Call) → MadeFrom M s ks → Allowed (last_of M s ks) k → MadeFrom M s (ks ++ (k ∷ []))
   unfolding MadeFrom last_of
-  made-join s [] k m a = (a, tt)
-  made-join s (j ∷ ks) k m a = (m.0, made-join _ ks k m.1 a)
+  made_join s [] k m a = (a, tt)
+  made_join s (j ∷ ks) k m a = (m.0, made_join _ ks k m.1 a)
 
-  last-join : (s : State) (ks : List Call) (k : Call) → last_of M s (ks ++ (k ∷ [])) ≡ next (answer k)
+  last_join : (s : State) (ks : List Call) (k : Call) → last_of M s (ks ++ (k ∷ [])) ≡ next (answer k)
   unfolding last_of
-  last-join s [] k = refl
-  last-join s (j ∷ ks) k = last-join (next (answer j)) ks k
+  last_join s [] k = refl
+  last_join s (j ∷ ks) k = last_join (next (answer j)) ks k
 
   made_after : {start s u : State} {ts : List (Turn Call)} (ks : List Call) → Reset start → MadeFrom M start ks → last_of M start ks ≡ s
-      → MadeTurns s ts u → FromReset (sinceAfter ks ts) u
-  unfolding MadeFrom last_of sinceAfter
-  made_after ks r m e none = record { start = _; was-reset = r; made = m; last = e }
+      → MadeTurns s ts u → FromReset (since_after ks ts) u
+  unfolding MadeFrom last_of since_after
+  made_after ks r m e none = record { start = _; was_reset = r; made = m; last = e }
   made_after ks r m e (afresh p w) = made_after [] p tt refl w
-  made_after ks r m e (called {k} a w) = made_after (ks ++ (k ∷ [])) r (made-join _ ks k m (rw e a)) (last-join _ ks k) w
+  made_after ks r m e (called {k} a w) = made_after (ks ++ (k ∷ [])) r (made_join _ ks k m (rw e a)) (last_join _ ks k) w
 
   -- THE LAW, from any record
-  pub made-since : {s u : State} {ts : List (Turn Call)} → MadeTurns s (reset ∷ ts) u → FromReset (since ts) u
+  pub made_since : {s u : State} {ts : List (Turn Call)} → MadeTurns s (reset ∷ ts) u → FromReset (since ts) u
   unfolding MadeFrom last_of
-  made-since (afresh p w) = made_after [] p tt refl w
+  made_since (afresh p w) = made_after [] p tt refl w

@@ -7,19 +7,19 @@ use base.Stored.{Coded-set, coded_ℕ, coded_list}
 use Rattle.std.specs.Borrow.{Bor}
 use Rattle.laws.specs.One.{Allows, Lifetimes, claims}
 use Rattle.cue.proofs as cue
-use Rattle.g722.specs.Coding.{coderAfter}
-use Rattle.facts.specs.Upper.{upperSix}
+use Rattle.g722.specs.Coding.{coder_after}
+use Rattle.facts.specs.Upper.{upper_six}
 use Rattle.g722.specs.declared.Coder.{Coder}
 use Rattle.g722.specs.declared.Decoder.{Decoder}
 use Rattle.g722.specs.declared.Moved.{Moved}
-use Rattle.facts.specs.Told.{decoderRun}
+use Rattle.facts.specs.Told.{decoder_run}
 use Rattle.promises.specs.Sequences.{DecodeInput}
 use Rattle.promises.specs.SameBands.{SameBands}
 use Rattle.promises.specs.Ends.{AsSent}
-use Rattle.promises.specs.Carried.{Parcel, laden, withData, withoutData, six-kept, alike-calls}
+use Rattle.promises.specs.Carried.{Parcel, laden, with_data, without_data, six_kept, alike_calls}
 use Rattle.promises.specs.Made.{MadeFrom, last_of}
-use Rattle.promises.specs.Running.{Reset-coder, Reset-decoder, Coding, Decoding, codings, decodings, sent, spoken, came, heard}
-use Rattle.promises.specs.Running.{running-ends-equal, running-unheard}
+use Rattle.promises.specs.Running.{Reset_coder, Reset_decoder, Coding, Decoding, codings, decodings, sent, spoken, came, heard}
+use Rattle.promises.specs.Running.{running_ends_equal, running_unheard}
 
 -- a call of `cue::put` that was made: the lifetimes and what was lent, what it answered and left; and the memory that is lent later,
 -- when its octets are decoded
@@ -45,42 +45,42 @@ abbrev pub parcel : Putting → Parcel
 parcel p = record { octets = p.octets.now; mode = p.mode; bytes = p.bytes.now; samples = p.samples }
 
 -- its octets decoded in the mode of the data, as they were left
-abbrev pub asLeft : Putting → DecodeInput
-asLeft p = record { told = p.mode; octets = p.left; samples = p.samples }
+abbrev pub as_left : Putting → DecodeInput
+as_left p = record { told = p.mode; octets = p.left; samples = p.samples }
 
 -- ---- what was left is what the definition gives
 
-did-put : (p : Putting) → Puts p → p.left ≡ laden (parcel p)
-did-put p h = claims (Coded-set (coded_list coded_ℕ) p.left (laden (parcel p))) h (λ e. e.left)
+did_put : (p : Putting) → Puts p → p.left ≡ laden (parcel p)
+did_put p h = claims (Coded-set (coded_list coded_ℕ) p.left (laden (parcel p))) h (λ e. e.left)
 
 all_left : (ps : List Putting) → AllPut ps → flat_map (λ p. p.left) ps ≡ flat_map laden (map parcel ps)
 unfolding AllPut flat_map
 all_left [] h = refl
-all_left (p ∷ ps) h = ap₂ ◌++◌ (did-put p h.0) (all_left ps h.1)
+all_left (p ∷ ps) h = ap₂ ◌++◌ (did_put p h.0) (all_left ps h.1)
 
-all_asked : (ps : List Putting) → AllPut ps → map asLeft ps ≡ map withData (map parcel ps)
+all_asked : (ps : List Putting) → AllPut ps → map as_left ps ≡ map with_data (map parcel ps)
 unfolding AllPut
 all_asked [] h = refl
 all_asked (p ∷ ps) h =
-    λ i. record { told = p.mode; octets = did-put p h.0 i; samples = p.samples } ∷ all_asked ps h.1 i
+    λ i. record { told = p.mode; octets = did_put p h.0 i; samples = p.samples } ∷ all_asked ps h.1 i
 
 -- THE THEOREMS. What coding calls from reset sent is cut anywhere, and data is put into each part, in any mode or none.
 
 -- Wherever the first n octets came as they were left, the ends are equal after the n-th, whatever modes were told
-pub running-carried : (c : Coder) (d : Decoder) → Reset-coder c → Reset-decoder d
+pub running_carried : (c : Coder) (d : Decoder) → Reset_coder c → Reset_decoder d
     → (ks : List Coding) (ps : List Putting) (ds : List Decoding) → MadeFrom codings c ks → AllPut ps → MadeFrom decodings d ds
     → sent ks ≡ flat_map (λ x. x.octets) (map parcel ps)
     → (n : ℕ) → AsSent n (flat_map (λ p. p.left) ps) (came ds)
-    → SameBands (coderAfter c (take (2 * n) (spoken ks))) (decoderRun d (take n (came ds)))
-running-carried c d a b ks ps ds m h w e n f =
-    let kept = six-kept (map parcel ps) ∙ ap (map upperSix) (sym e) in
-    running-ends-equal c d a b ks ds m w n
-    (ap (take n) (sym kept) ∙ ap (λ l. take n (map upperSix l)) (sym (all_left ps h)) ∙ f)
+    → SameBands (coder_after c (take (2 * n) (spoken ks))) (decoder_run d (take n (came ds)))
+running_carried c d a b ks ps ds m h w e n f =
+    let kept = six_kept (map parcel ps) ∙ ap (map upper_six) (sym e) in
+    running_ends_equal c d a b ks ds m w n
+    (ap (take n) (sym kept) ∙ ap (λ l. take n (map upper_six l)) (sym (all_left ps h)) ∙ f)
 
 -- And decoded in the mode of their data the parts give the numbers, the records and the samples that they give without it
-pub running-data-unheard : (d : Decoder) (ps : List Putting) (ds js : List Decoding)
+pub running_data_unheard : (d : Decoder) (ps : List Putting) (ds js : List Decoding)
     → AllPut ps → MadeFrom decodings d ds → MadeFrom decodings d js
-    → map decodings.input ds ≡ map asLeft ps → map decodings.input js ≡ map withoutData (map parcel ps)
+    → map decodings.input ds ≡ map as_left ps → map decodings.input js ≡ map without_data (map parcel ps)
     → (map decodings.answer ds ≡ map decodings.answer js) × (heard ds ≡ heard js) × (last_of decodings d ds ≡ last_of decodings d js)
-running-data-unheard d ps ds js h m w e f =
-    running-unheard d ds js m w (rw (e, f, all_asked ps h) (alike-calls (map parcel ps)))
+running_data_unheard d ps ds js h m w e f =
+    running_unheard d ds js m w (rw (e, f, all_asked ps h) (alike_calls (map parcel ps)))

@@ -17,37 +17,37 @@ pub data StepGiven : Type 0 where
   octet : Told → StepGiven
   pair : Heard → StepGiven
 
-unfoldable pub octetsIn : List StepGiven → List Told
-octetsIn [] = []
-octetsIn (octet t ∷ gs) = t ∷ octetsIn gs
-octetsIn (pair h ∷ gs) = octetsIn gs
+unfoldable pub octets_in : List StepGiven → List Told
+octets_in [] = []
+octets_in (octet t ∷ gs) = t ∷ octets_in gs
+octets_in (pair h ∷ gs) = octets_in gs
 
-unfoldable pub pairsIn : List StepGiven → List Heard
-pairsIn [] = []
-pairsIn (octet t ∷ gs) = pairsIn gs
-pairsIn (pair h ∷ gs) = h ∷ pairsIn gs
+unfoldable pub pairs_in : List StepGiven → List Heard
+pairs_in [] = []
+pairs_in (octet t ∷ gs) = pairs_in gs
+pairs_in (pair h ∷ gs) = h ∷ pairs_in gs
 
 abbrev pub either : {X : Type 0} → (HearInput → X) → (JoinInput → X) → StepInput → X
 either f g (hear k) = f k
 either f g (join k) = g k
 
-abbrev pub stepGiven : StepInput → List StepGiven
-stepGiven = either (λ k. map octet (hearing.given k)) (λ k. map pair (joining.given k))
+abbrev pub step_given : StepInput → List StepGiven
+step_given = either (λ k. map octet (hearing.given k)) (λ k. map pair (joining.given k))
 
 -- octets alone, pairs alone, and what is cut in two
-pub octets-only : (ts : List Told) → (octetsIn (map octet ts) ≡ ts) × (pairsIn (map octet ts) ≡ [])
-unfolding octetsIn pairsIn
-octets-only [] = (refl, refl)
-octets-only (t ∷ ts) = (ap (◌∷◌ t) (octets-only ts).0, (octets-only ts).1)
+pub octets_only : (ts : List Told) → (octets_in (map octet ts) ≡ ts) × (pairs_in (map octet ts) ≡ [])
+unfolding octets_in pairs_in
+octets_only [] = (refl, refl)
+octets_only (t ∷ ts) = (ap (◌∷◌ t) (octets_only ts).0, (octets_only ts).1)
 
-pub pairs-only : (hs : List Heard) → (octetsIn (map pair hs) ≡ []) × (pairsIn (map pair hs) ≡ hs)
-unfolding octetsIn pairsIn
-pairs-only [] = (refl, refl)
-pairs-only (h ∷ hs) = ((pairs-only hs).0, ap (◌∷◌ h) (pairs-only hs).1)
+pub pairs_only : (hs : List Heard) → (octets_in (map pair hs) ≡ []) × (pairs_in (map pair hs) ≡ hs)
+unfolding octets_in pairs_in
+pairs_only [] = (refl, refl)
+pairs_only (h ∷ hs) = ((pairs_only hs).0, ap (◌∷◌ h) (pairs_only hs).1)
 
 pub sorted : (gs rest : List StepGiven)
-    → (octetsIn (gs ++ rest) ≡ octetsIn gs ++ octetsIn rest) × (pairsIn (gs ++ rest) ≡ pairsIn gs ++ pairsIn rest)
-unfolding octetsIn pairsIn
+    → (octets_in (gs ++ rest) ≡ octets_in gs ++ octets_in rest) × (pairs_in (gs ++ rest) ≡ pairs_in gs ++ pairs_in rest)
+unfolding octets_in pairs_in
 sorted [] rest = (refl, refl)
 sorted (octet t ∷ gs) rest = (ap (◌∷◌ t) (sorted gs rest).0, (sorted gs rest).1)
 sorted (pair h ∷ gs) rest = ((sorted gs rest).0, ap (◌∷◌ h) (sorted gs rest).1)

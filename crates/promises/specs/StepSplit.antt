@@ -8,11 +8,11 @@ use Rattle.std.proofs.Math.Bool.{cond}
 use mathlib.Core.List.{List, [], ◌∷◌, ◌++◌, append_assoc, append-nil}
 use Rattle.std.proofs.Math.Dec.{eqb}
 use Rattle.std.proofs.lemmas.List.{length-replicate}
-use Rattle.laws.specs.Order.{by-test}
+use Rattle.laws.specs.Order.{by_test}
 use Rattle.g722.specs.declared.Decoder.{Decoder}
-use Rattle.promises.specs.Steps.{twoSteps, first-accepted, in-two-steps}
-use Rattle.promises.specs.Through.{Calls, done, following, through, ofAccepted, lefts}
-use Rattle.promises.specs.Sequences.{DecodeInput, decoding, decoding-runs}
+use Rattle.promises.specs.Steps.{two_steps, first_accepted, in_two_steps_lem}
+use Rattle.promises.specs.Through.{Calls, done, following, through, of_accepted, lefts}
+use Rattle.promises.specs.Sequences.{DecodeInput, decoding, decoding_runs}
 use Rattle.promises.specs.HearCalls.{HearInput, hears}
 use Rattle.promises.specs.StepGiven.{StepInput, hear, join}
 use Rattle.promises.specs.StepOrder.{stepping}
@@ -20,71 +20,71 @@ use Rattle.promises.specs.StepOrder.{stepping}
 -- ---- calls one after the other, cut in two
 
 module _ (C : Calls) where
-  through-append : (s : C.State) (ks js : List C.Input) → through C s (ks ++ js) ≡ through C (through C s ks) js
+  through_append : (s : C.State) (ks js : List C.Input) → through C s (ks ++ js) ≡ through C (through C s ks) js
   unfolding through
-  through-append s [] js = refl
-  through-append s (k ∷ ks) js = through-append (following C s k) ks js
+  through_append s [] js = refl
+  through_append s (k ∷ ks) js = through_append (following C s k) ks js
 
-  of-append : {Z : Type 0} (f : C.State → C.Input → List Z) (s : C.State) (ks js : List C.Input)
-      → ofAccepted C f s (ks ++ js) ≡ ofAccepted C f s ks ++ ofAccepted C f (through C s ks) js
-  unfolding through ofAccepted
-  of-append f s [] js = refl
-  of-append {Z} f s (k ∷ ks) js =
-      ap (λ (l : List Z). cond (done C s k) (f s k) [] ++ l) (of-append f (following C s k) ks js)
+  of_append : {Z : Type 0} (f : C.State → C.Input → List Z) (s : C.State) (ks js : List C.Input)
+      → of_accepted C f s (ks ++ js) ≡ of_accepted C f s ks ++ of_accepted C f (through C s ks) js
+  unfolding through of_accepted
+  of_append f s [] js = refl
+  of_append {Z} f s (k ∷ ks) js =
+      ap (λ (l : List Z). cond (done C s k) (f s k) [] ++ l) (of_append f (following C s k) ks js)
       ∙ sym (append_assoc (cond (done C s k) (f s k) []) _ _)
 
 -- ---- one call
 
 -- the first step, with memory lent for as many signals as octets, and the second
-abbrev pub firstInput : DecodeInput → HearInput
-firstInput k =
+abbrev pub first_input : DecodeInput → HearInput
+first_input k =
     let none = replicate (length k.octets) (pos 0) in
     record { told = k.told; octets = k.octets; low = none; high = none }
 
-abbrev pub inSteps : Decoder → DecodeInput → List StepInput
-inSteps d k =
-    let signals = (hears d (firstInput k)).left in
-    hear (firstInput k) ∷ join (record { low = signals.0; high = signals.1; samples = k.samples }) ∷ []
+abbrev pub in_steps : Decoder → DecodeInput → List StepInput
+in_steps d k =
+    let signals = (hears d (first_input k)).left in
+    hear (first_input k) ∷ join (record { low = signals.0; high = signals.1; samples = k.samples }) ∷ []
 
 module _ (d : Decoder) (k : DecodeInput) (e : done decoding d k ≡ true) where
   many : length (replicate (length k.octets) (pos 0)) ≡ length k.octets
   many = length-replicate (length k.octets) (pos 0)
 
-  both-steps : decoding.call d k ≡ twoSteps d k.told k.octets (firstInput k).low (firstInput k).high k.samples
-  both-steps = in-two-steps d k.told k.octets k.samples (firstInput k).low (firstInput k).high many many (eqb-true _ _ e)
+  both_steps : decoding.call d k ≡ two_steps d k.told k.octets (first_input k).low (first_input k).high k.samples
+  both_steps = in_two_steps_lem d k.told k.octets k.samples (first_input k).low (first_input k).high many many (eqb-true _ _ e)
 
-  record-one : through stepping d (inSteps d k) ≡ following decoding d k
+  record_one : through stepping d (in_steps d k) ≡ following decoding d k
   unfolding through
-  record-one = ap (λ x. x.answer.next) (sym both-steps)
+  record_one = ap (λ x. x.answer.next) (sym both_steps)
 
-  samples-one : lefts stepping d (inSteps d k) ≡ (decoding.call d k).left
-  unfolding ofAccepted
-  samples-one =
-      let first = first-accepted d k.told k.octets k.samples (firstInput k).low (firstInput k).high many many (eqb-true _ _ e) in
-      let second = ap (λ x. eqb x.answer.number 0) (sym both-steps) ∙ e in
-      rw (eq-eqb _ _ first, second) (append-nil _ ∙ ap (λ x. x.left) (sym both-steps))
+  samples_one : lefts stepping d (in_steps d k) ≡ (decoding.call d k).left
+  unfolding of_accepted
+  samples_one =
+      let first = first_accepted d k.told k.octets k.samples (first_input k).low (first_input k).high many many (eqb-true _ _ e) in
+      let second = ap (λ x. eqb x.answer.number 0) (sym both_steps) ∙ e in
+      rw (eq-eqb _ _ first, second) (append-nil _ ∙ ap (λ x. x.left) (sym both_steps))
 
 -- ---- THE THEOREM: the accepted calls of a sequence, each in steps, end with the same record and leave the same samples
 
-abbrev pub allInSteps : Decoder → List DecodeInput → List StepInput
-allInSteps = ofAccepted decoding inSteps
+abbrev pub all_in_steps : Decoder → List DecodeInput → List StepInput
+all_in_steps = of_accepted decoding in_steps
 
-pub steps-of-decoding : (d : Decoder) (ks : List DecodeInput)
-    → (through stepping d (allInSteps d ks) ≡ through decoding d ks) × (lefts stepping d (allInSteps d ks) ≡ lefts decoding d ks)
-unfolding through ofAccepted
-steps-of-decoding d [] = (refl, refl)
-steps-of-decoding d (k ∷ ks) =
+pub steps_of_decoding : (d : Decoder) (ks : List DecodeInput)
+    → (through stepping d (all_in_steps d ks) ≡ through decoding d ks) × (lefts stepping d (all_in_steps d ks) ≡ lefts decoding d ks)
+unfolding through of_accepted
+steps_of_decoding d [] = (refl, refl)
+steps_of_decoding d (k ∷ ks) =
     let t = following decoding d k in
-    let rest = allInSteps t ks in
-    let ih = steps-of-decoding t ks in
-    by-test (done decoding d k)
+    let rest = all_in_steps t ks in
+    let ih = steps_of_decoding t ks in
+    by_test (done decoding d k)
     (λ e. rw e (
-      through-append stepping d (inSteps d k) rest ∙ ap (λ c. through stepping c rest) (record-one d k e) ∙ ih.0,
-      of-append stepping (λ c j. (stepping.call c j).left) d (inSteps d k) rest
-          ∙ (λ i. samples-one d k e i ++ lefts stepping (record-one d k e i) rest)
+      through_append stepping d (in_steps d k) rest ∙ ap (λ c. through stepping c rest) (record_one d k e) ∙ ih.0,
+      of_append stepping (λ c j. (stepping.call c j).left) d (in_steps d k) rest
+          ∙ (λ i. samples_one d k e i ++ lefts stepping (record_one d k e i) rest)
           ∙ ap (λ l. (decoding.call d k).left ++ l) ih.1,
     ))
     (λ e. rw e (
-      ap (λ c. through stepping c rest) (sym (decoding-runs.refused d k e)) ∙ ih.0,
-      ap (λ c. lefts stepping c rest) (sym (decoding-runs.refused d k e)) ∙ ih.1,
+      ap (λ c. through stepping c rest) (sym (decoding_runs.refused d k e)) ∙ ih.0,
+      ap (λ c. lefts stepping c rest) (sym (decoding_runs.refused d k e)) ∙ ih.1,
     ))

@@ -15,11 +15,11 @@ scalel = equation (λ κs a l m. refl) (λ M. quant.scalel.Met.met)
 pub scaleh : LeavesOne quant.scaleh.ended (λ M. quant.scaleh.clauses) quant.scaleh.Symbol.routine
 scaleh = equation (λ κs a l m. refl) (λ M. quant.scaleh.Met.met)
 
-pub low-factors : LeavesOne quant.low_factors.ended (λ M. quant.low_factors.clauses) quant.low_factors.Symbol.routine
-low-factors = equation (λ κs a l m. refl) (λ M. quant.low_factors.Met.met)
+pub low_factors : LeavesOne quant.low_factors.ended (λ M. quant.low_factors.clauses) quant.low_factors.Symbol.routine
+low_factors = equation (λ κs a l m. refl) (λ M. quant.low_factors.Met.met)
 
-pub high-factors : LeavesOne quant.high_factors.ended (λ M. quant.high_factors.clauses) quant.high_factors.Symbol.routine
-high-factors = equation (λ κs a l m. refl) (λ M. quant.high_factors.Met.met)
+pub high_factors : LeavesOne quant.high_factors.ended (λ M. quant.high_factors.clauses) quant.high_factors.Symbol.routine
+high_factors = equation (λ κs a l m. refl) (λ M. quant.high_factors.Met.met)
 
 pub invqal : LeavesOne quant.invqal.ended (λ M. quant.invqal.clauses) quant.invqal.Symbol.routine
 invqal = equation (λ κs a l m. refl) (λ M. quant.invqal.Met.met)
@@ -27,8 +27,8 @@ invqal = equation (λ κs a l m. refl) (λ M. quant.invqal.Met.met)
 pub invqah : LeavesOne quant.invqah.ended (λ M. quant.invqah.clauses) quant.invqah.Symbol.routine
 invqah = equation (λ κs a l m. refl) (λ M. quant.invqah.Met.met)
 
-pub in-force : LeavesOne quant.in_force.ended (λ M. quant.in_force.clauses) quant.in_force.Symbol.routine
-in-force = equation (λ κs a l m. refl) (λ M. quant.in_force.Met.met)
+pub in_force : LeavesOne quant.in_force.ended (λ M. quant.in_force.clauses) quant.in_force.Symbol.routine
+in_force = equation (λ κs a l m. refl) (λ M. quant.in_force.Met.met)
 
 pub invqbl : LeavesOne quant.invqbl.ended (λ M. quant.invqbl.clauses) quant.invqbl.Symbol.routine
 invqbl = equation (λ κs a l m. refl) (λ M. quant.invqbl.Met.met)

@@ -1,6 +1,6 @@
 // LOGSCL, LOGSCH, SCALEL and SCALEH: how the log factor and the scale factor follow the code words.
 ghost use Rattle.std.specs.Prelude.{◌≡◌};
-ghost use Rattle.g722.specs.Quantise.{logsc, logscl, logsch, scalel, scaleh, lowFactors, highFactors};
+ghost use Rattle.g722.specs.Quantise.{logsc, logscl, logsch, scalel, scaleh, low_factors, high_factors};
 
 use arith::{add, clamp, mul, size, wide};
 use g722::Factors;
@@ -46,7 +46,7 @@ pub fn scaleh(nbph: i16) -> i16
 
 // Both factors of the low band after a word.
 pub fn low_factors(f: Factors, il: u8) -> Factors
-    ensures { result ≡ lowFactors f il }
+    ensures { result ≡ low_factors f il }
 {
     let log = logscl(il, f.log);
     Factors {
@@ -57,7 +57,7 @@ pub fn low_factors(f: Factors, il: u8) -> Factors
 
 // Both factors of the high band.
 pub fn high_factors(f: Factors, ih: u8) -> Factors
-    ensures { result ≡ highFactors f ih }
+    ensures { result ≡ high_factors f ih }
 {
     let log = logsch(ih, f.log);
     Factors {

@@ -1,7 +1,7 @@
 // INVQAL, INVQAH and INVQBL: a code word to the quantised difference that it stands for at a scale.
 ghost use Rattle.std.specs.Prelude.{◌≡◌, cond, ◌*◌, ◌≤◌, pos};
 ghost use Rattle.g722.specs.Arithmetic.{neg, mul};
-ghost use Rattle.g722.specs.Quantise.{invqal, invqah, inForce, invqbl};
+ghost use Rattle.g722.specs.Quantise.{invqal, invqah, in_force, invqbl};
 
 use crate::product;
 use arith::pick;
@@ -35,7 +35,7 @@ pub fn invqah(ih: u8, deth: i16) -> i16
 
 // The mode that a told mode puts in force: 0, no indication, is mode 1.
 pub fn in_force(told: u8) -> u8
-    ensures { result ≡ inForce told }
+    ensures { result ≡ in_force told }
 {
     if told == 0 {
         return 1;

@@ -2,7 +2,7 @@
 ghost use Rattle.std.specs.Prelude.{◌≡◌, map, ◌+◌, ◌≤◌, pos, drop};
 ghost use Rattle.std.specs.Int.Signed.{lt_z};
 ghost use Rattle.g722.specs.Tables.{q6, q2};
-ghost use Rattle.g722.specs.Quantise.{level, atOrBelow, quantl, quanth};
+ghost use Rattle.g722.specs.Quantise.{level, at_or_below, quantl, quanth};
 
 use arith::{size, wide};
 use g722::Interval;
@@ -26,7 +26,7 @@ fn below(size: u16, q: u16, scale: i16) -> bool
 // The interval of a size that no level before the place `from` is above: the place of the first level above it, or 30 where there is none.
 fn search(from: usize, size: u16, scale: i16) -> u8
     requires { from ≤ 29 }
-    ensures { result ≡ 1 + (from + atOrBelow size (drop from (map (level scale) (drop 1 q6)))) }
+    ensures { result ≡ 1 + (from + at_or_below size (drop from (map (level scale) (drop 1 q6)))) }
 {
     let q = Q6;
     let mut i = from;
@@ -46,7 +46,7 @@ fn search(from: usize, size: u16, scale: i16) -> u8
 // it. The fifth, the tenth and the nineteenth level part the 29 in four, so that a search is short; the places are written out, so that
 // the compiler can unroll each search.
 fn low_interval(size: u16, scale: i16) -> u8
-    ensures { result ≡ 1 + atOrBelow size (map (level scale) (drop 1 q6)) }
+    ensures { result ≡ 1 + at_or_below size (map (level scale) (drop 1 q6)) }
 {
     let q = Q6;
     if below(size, q[9], scale) {
@@ -63,7 +63,7 @@ fn low_interval(size: u16, scale: i16) -> u8
 
 // The interval in the high band, which has one level.
 fn high_interval(size: u16, scale: i16) -> u8
-    ensures { result ≡ 1 + atOrBelow size (map (level scale) (drop 1 q2)) }
+    ensures { result ≡ 1 + at_or_below size (map (level scale) (drop 1 q2)) }
 {
     if below(size, 564, scale) {
         return 1;

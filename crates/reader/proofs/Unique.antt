@@ -11,11 +11,11 @@ use Rattle.reader.proofs as reader
 same : {r s : Reader} {src : Bor (List ℕ)} {at : ℕ} → (r.src ≡ src) × (r.at ≡ at) → (s.src ≡ src) × (s.at ≡ at) → r ≡ s
 same p q = λ i. record { src = (p.0 ∙ sym q.0) i; at = (p.1 ∙ sym q.1) i }
 
-pub step-at : LeavesOne reader.step_at.ended (λ M. reader.step_at.clauses) reader.step_at.Symbol.routine
-step-at = equation (λ κs a l m. refl) (λ M. reader.step_at.Met.met)
+pub step_at : LeavesOne reader.step_at.ended (λ M. reader.step_at.clauses) reader.step_at.Symbol.routine
+step_at = equation (λ κs a l m. refl) (λ M. reader.step_at.Met.met)
 
-pub next-at : LeavesOne reader.next_at.ended (λ M. reader.next_at.clauses) reader.next_at.Symbol.routine
-next-at = equation (λ κs a l m. refl) (λ M. reader.next_at.Met.met)
+pub next_at : LeavesOne reader.next_at.ended (λ M. reader.next_at.clauses) reader.next_at.Symbol.routine
+next_at = equation (λ κs a l m. refl) (λ M. reader.next_at.Met.met)
 
 pub new : LeavesOne reader.new.ended (λ M. reader.new.clauses) reader.new.Symbol.routine
 new = claimed (λ κs a l m. refl) (λ κs a r s e f p q. same p q) (λ M. reader.new.Met.met)

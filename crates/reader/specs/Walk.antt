@@ -1,7 +1,7 @@
 -- A recording, block after block.
 -- Assumes nothing.
 use Rattle.std.specs.Prelude.{true, false, cond, List, ℕ, ◌+◌, ◌*◌, eqb, ltb, leb, length, take, drop}
-use Rattle.block.specs.Calls.{refused, readCall}
+use Rattle.block.specs.Calls.{refused, read_call}
 use Rattle.block.specs.declared.BlockRead.{BlockRead}
 use Rattle.reader.specs.declared.Step.{Step}
 
@@ -14,12 +14,12 @@ unfoldable pub stood : BlockRead → ℕ → Step
 stood b at = record { end = false; block = b; next = cond (eqb b.number 0) (at + 1) at }
 
 -- block number `at`: the end where nothing is left, 6 where fewer than 512 bytes are, else what these 512 read as
-unfoldable pub stepAt : List ℕ → ℕ → Step
-stepAt s at =
+unfoldable pub step_at : List ℕ → ℕ → Step
+step_at s at =
     cond (leb (length s) (512 * at)) (ended at)
     (cond (ltb (length s) (512 * at + 512)) (stood (refused 6) at)
-    (stood (readCall (take 512 (drop (512 * at) s))) at))
+    (stood (read_call (take 512 (drop (512 * at) s))) at))
 
 -- where the walk goes on from there
 abbrev pub next_at : List ℕ → ℕ → ℕ
-next_at s at = (stepAt s at).next
+next_at s at = (step_at s at).next

@@ -1,6 +1,6 @@
 // A recording, 512-byte blocks one after another, walked block by block (SCOPE, the reader).
 ghost use Rattle.std.specs.Prelude.{◌≡◌, ◌+◌, ◌^◌, ◌<◌};
-ghost use Rattle.reader.specs.Walk.{ended, stood, stepAt, next_at};
+ghost use Rattle.reader.specs.Walk.{ended, stood, step_at, next_at};
 
 use block::BlockRead;
 
@@ -59,7 +59,7 @@ fn stood(block: BlockRead, at: usize) -> Step
 
 // Block number `at` of a recording.
 pub fn step_at(src: &[u8], at: usize) -> Step
-    ensures { result ≡ stepAt src.now at }
+    ensures { result ≡ step_at src.now at }
 {
     let whole = src.len() / 512;
     if whole < at {
@@ -91,7 +91,7 @@ pub fn new<'a>(src: &'a [u8]) -> Reader<'a>
 
 // What stands where the reader is, and where it goes on.
 pub fn next<'a>(r: Reader<'a>) -> Step
-    ensures { result ≡ stepAt r.entry.src.now r.entry.at }
+    ensures { result ≡ step_at r.entry.src.now r.entry.at }
 {
     step_at(r.src, r.at)
 }

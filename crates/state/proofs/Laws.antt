@@ -11,14 +11,14 @@ use lib.ListN.{length, get_or, set, take, drop, replicate, length-set, length-dr
 use lib.Seq.{length-take-le, take_all, drop-drop, get_or-take, get_or-drop}
 use borrow.Rule.Slice.PartMut.{mid_of, put_mid, same_len_mid, mid_len}
 use Rattle.laws.specs.Parts.{behind}
-use Rattle.g722.specs.Records.{resetBand}
+use Rattle.g722.specs.Records.{reset_band}
 use Rattle.g722.specs.declared.Band.{Band}
 use Rattle.g722.specs.declared.Coder.{Coder}
 use Rattle.g722.specs.declared.Decoder.{Decoder}
-use Rattle.big_endian.specs.Bytes.{pcmSamples, pcmBytes, loadCall, storeCall, load-all, store-all}
-use Rattle.big_endian.specs.Bytes.{samples-of-first, samples-of-rest, bytes-join, bytes-length}
-use Rattle.state.specs.Layout.{bandValues, coderValues, decoderValues, coderBytes, decoderBytes, writeCall}
-use Rattle.state.specs.Layout.{value, part, bandOf, coderOf, decoderOf, holds, noCoder, noDecoder, coderIn, decoderIn}
+use Rattle.big_endian.specs.Bytes.{pcm_samples, pcm_bytes, load_call, store_call, load_all, store_all}
+use Rattle.big_endian.specs.Bytes.{samples_of_first, samples_of_rest, bytes_join, bytes_length}
+use Rattle.state.specs.Layout.{band_values, coder_values, decoder_values, coder_bytes, decoder_bytes, write_call}
+use Rattle.state.specs.Layout.{value, part, band_of, coder_of, decoder_of, holds, no_coder, no_decoder, coder_in, decoder_in}
 
 -- ---- read
 
@@ -27,33 +27,33 @@ part_length a n b h = length-take-le n (drop a b) (rw length-drop (omega arith))
 
 -- the values that stand at bytes a to a + 2n, and behind the first byte of a state
 module _ (k n : ℕ) (z : List ℤ) {r : List ℤ} where
-  pub values-at : (b : List ℕ) → 2 * k + 2 * n ≤ length b → length z ≡ n → r ≡ (loadCall (take (2 * n) (drop (2 * k) b)) z).left
-      → r ≡ part k n (pcmSamples b)
-  values-at b h l e =
+  pub values_at : (b : List ℕ) → 2 * k + 2 * n ≤ length b → length z ≡ n → r ≡ (load_call (take (2 * n) (drop (2 * k) b)) z).left
+      → r ≡ part k n (pcm_samples b)
+  values_at b h l e =
       let p = part_length (2 * k) (2 * n) b h in
-      e ∙ load-all (take (2 * n) (drop (2 * k) b)) z (omega (arith, p, l))
-      ∙ samples-of-first n (drop (2 * k) b) ∙ ap (take n) (samples-of-rest k b)
+      e ∙ load_all (take (2 * n) (drop (2 * k) b)) z (omega (arith, p, l))
+      ∙ samples_of_first n (drop (2 * k) b) ∙ ap (take n) (samples_of_rest k b)
 
-  pub values-behind : (s : List ℕ) → 1 + 2 * k + 2 * n ≤ length s → length z ≡ n
-      → r ≡ (loadCall (take (2 * n) (drop (1 + 2 * k) s)) z).left → r ≡ part k n (pcmSamples (drop 1 s))
-  values-behind s h l e =
-      values-at (drop 1 s) (rw length-drop (omega arith)) l (e ∙ ap (λ x. (loadCall (take (2 * n) x) z).left) (sym (drop-drop (2 * k) 1 s)))
+  pub values_behind : (s : List ℕ) → 1 + 2 * k + 2 * n ≤ length s → length z ≡ n
+      → r ≡ (load_call (take (2 * n) (drop (1 + 2 * k) s)) z).left → r ≡ part k n (pcm_samples (drop 1 s))
+  values_behind s h l e =
+      values_at (drop 1 s) (rw length-drop (omega arith)) l (e ∙ ap (λ x. (load_call (take (2 * n) x) z).left) (sym (drop-drop (2 * k) 1 s)))
 
 -- a band that stands there
-band-behind : (k : ℕ) (s : List ℕ) → bandOf (pcmSamples (take 40 (drop (1 + 2 * k) s))) ≡ bandOf (part k 20 (pcmSamples (drop 1 s)))
-band-behind k s =
-    ap bandOf (ap (λ x. pcmSamples (take 40 x)) (sym (drop-drop (2 * k) 1 s))
-    ∙ samples-of-first 20 (drop (2 * k) (drop 1 s)) ∙ ap (take 20) (samples-of-rest k (drop 1 s)))
+band_behind : (k : ℕ) (s : List ℕ) → band_of (pcm_samples (take 40 (drop (1 + 2 * k) s))) ≡ band_of (part k 20 (pcm_samples (drop 1 s)))
+band_behind k s =
+    ap band_of (ap (λ x. pcm_samples (take 40 x)) (sym (drop-drop (2 * k) 1 s))
+    ∙ samples_of_first 20 (drop (2 * k) (drop 1 s)) ∙ ap (take 20) (samples_of_rest k (drop 1 s)))
 
 -- a band from its rows and its eight last values
-pub band-read : (v : List ℤ) {b d rest : List ℤ} → b ≡ part 0 6 v → d ≡ part 6 6 v → rest ≡ part 12 8 v
+pub band_read : (v : List ℤ) {b d rest : List ℤ} → b ≡ part 0 6 v → d ≡ part 6 6 v → rest ≡ part 12 8 v
     → ◌≡◌ {A = Band} (record {
       zeros = record { b = b; d = d };
       poles = record { a1 = value rest 0; a2 = value rest 1; r1 = value rest 2; r2 = value rest 3; p1 = value rest 4; p2 = value rest 5 };
       factors = record { log = value rest 6; scale = value rest 7 };
-    }) (bandOf v)
-unfolding bandOf
-band-read v {rest = rest} f g h =
+    }) (band_of v)
+unfolding band_of
+band_read v {rest = rest} f g h =
     let at : (k : ℕ) → k < 8 → value rest k ≡ value v (12 + k) =
     λ k l. ap (λ x. value x k) h ∙ get_or-take 8 (drop 12 v) k (pos 0) l ∙ get_or-drop 12 v k (pos 0) in
     λ i. record {
@@ -71,28 +71,28 @@ band-read v {rest = rest} f g h =
 
 -- a record that bytes hold, and what they are read as where they hold none
 module _ (s : List ℕ) {low high : Band} where
-  module _ (l : low ≡ bandOf (pcmSamples (take 40 (drop 1 s)))) (h : high ≡ bandOf (pcmSamples (take 40 (drop 41 s)))) where
-    pub coder-read : {past : List ℤ} → holds 1 s ≡ true → past ≡ part 40 22 (pcmSamples (drop 1 s))
-        → ◌≡◌ {A = Coder} (record { low = low; high = high; past = past }) (coderIn s)
-    unfolding coderIn coderOf
-    coder-read e p = rw e (λ i. record { low = (l ∙ band-behind 0 s) i; high = (h ∙ band-behind 20 s) i; past = p i })
+  module _ (l : low ≡ band_of (pcm_samples (take 40 (drop 1 s)))) (h : high ≡ band_of (pcm_samples (take 40 (drop 41 s)))) where
+    pub coder_read : {past : List ℤ} → holds 1 s ≡ true → past ≡ part 40 22 (pcm_samples (drop 1 s))
+        → ◌≡◌ {A = Coder} (record { low = low; high = high; past = past }) (coder_in s)
+    unfolding coder_in coder_of
+    coder_read e p = rw e (λ i. record { low = (l ∙ band_behind 0 s) i; high = (h ∙ band_behind 20 s) i; past = p i })
 
-    pub decoder-read : {rl rh : List ℤ} → holds 2 s ≡ true → rl ≡ part 40 11 (pcmSamples (drop 1 s))
-        → rh ≡ part 51 11 (pcmSamples (drop 1 s)) → ◌≡◌ {A = Decoder} (record { low = low; high = high; past = record { rl = rl; rh = rh } }) (decoderIn s)
-    unfolding decoderIn decoderOf
-    decoder-read e p q =
-        rw e (λ i. record { low = (l ∙ band-behind 0 s) i; high = (h ∙ band-behind 20 s) i; past = record { rl = p i; rh = q i } })
+    pub decoder_read : {rl rh : List ℤ} → holds 2 s ≡ true → rl ≡ part 40 11 (pcm_samples (drop 1 s))
+        → rh ≡ part 51 11 (pcm_samples (drop 1 s)) → ◌≡◌ {A = Decoder} (record { low = low; high = high; past = record { rl = rl; rh = rh } }) (decoder_in s)
+    unfolding decoder_in decoder_of
+    decoder_read e p q =
+        rw e (λ i. record { low = (l ∙ band_behind 0 s) i; high = (h ∙ band_behind 20 s) i; past = record { rl = p i; rh = q i } })
 
-  module _ (l : low ≡ resetBand (pos 0)) (h : high ≡ resetBand (pos 0)) where
-    pub no-coder : holds 1 s ≡ false → ◌≡◌ {A = Coder} (record { low = low; high = high; past = replicate 22 (pos 0) }) (coderIn s)
-    unfolding coderIn noCoder
-    no-coder e = rw e (λ i. record { low = l i; high = h i; past = replicate 22 (pos 0) })
+  module _ (l : low ≡ reset_band (pos 0)) (h : high ≡ reset_band (pos 0)) where
+    pub no_coder_lem : holds 1 s ≡ false → ◌≡◌ {A = Coder} (record { low = low; high = high; past = replicate 22 (pos 0) }) (coder_in s)
+    unfolding coder_in no_coder
+    no_coder_lem e = rw e (λ i. record { low = l i; high = h i; past = replicate 22 (pos 0) })
 
-    pub no-decoder : holds 2 s ≡ false
+    pub no_decoder_lem : holds 2 s ≡ false
         → ◌≡◌ {A = Decoder}
-        (record { low = low; high = high; past = record { rl = replicate 11 (pos 0); rh = replicate 11 (pos 0) } }) (decoderIn s)
-    unfolding decoderIn noDecoder
-    no-decoder e = rw e (λ i. record { low = l i; high = h i; past = record { rl = replicate 11 (pos 0); rh = replicate 11 (pos 0) } })
+        (record { low = low; high = high; past = record { rl = replicate 11 (pos 0); rh = replicate 11 (pos 0) } }) (decoder_in s)
+    unfolding decoder_in no_decoder
+    no_decoder_lem e = rw e (λ i. record { low = l i; high = h i; past = record { rl = replicate 11 (pos 0); rh = replicate 11 (pos 0) } })
 
 -- ---- written, part after part
 
@@ -117,11 +117,11 @@ module _ {m : ℕ} {p xs : List ℕ} where
 
   -- and values stored there
   pub stored : (a e : ℕ) (v : List ℤ) {ys : List ℕ} → Front m a p xs → a ≤ e → e ≤ m → e - a ≡ 2 * length v
-      → ys ≡ (storeCall v (mid_of a (e - a) xs)).left → Front m e (p ++ pcmBytes v) (put_mid a (e - a) xs ys)
+      → ys ≡ (store_call v (mid_of a (e - a) xs)).left → Front m e (p ++ pcm_bytes v) (put_mid a (e - a) xs ys)
   stored a e v f h k l g =
       let n = f.long in
-      let y = g ∙ store-all v (mid_of a (e - a) xs) (mid_len a e xs (omega arith) ∙ l) in
-      rw y (further a e (pcmBytes v) f h k (bytes-length v ∙ sym l))
+      let y = g ∙ store_all v (mid_of a (e - a) xs) (mid_len a e xs (omega arith) ∙ l) in
+      rw y (further a e (pcm_bytes v) f h k (bytes_length v ∙ sym l))
 
 -- the first byte
 pub first : (m kind : ℕ) (xs : List ℕ) → 0 < m → length xs ≡ m → Front m 1 (kind ∷ []) (set xs 0 kind)
@@ -131,39 +131,39 @@ first m kind (x ∷ xs) h l = record { long = l; is = refl }
 -- ---- what is written is what the layout says
 
 module _ (state lent : List ℕ) where
-  pub written : length lent ≡ 125 → writeCall state lent ≡ record { answer = true; left = state }
-  unfolding writeCall
+  pub written : length lent ≡ 125 → write_call state lent ≡ record { answer = true; left = state }
+  unfolding write_call
   written e = simp (eq-eqb _ _ e)
 
-  pub unwritten : (length lent ≡ 125 → ⊥) → writeCall state lent ≡ record { answer = false; left = lent }
-  unfolding writeCall
+  pub unwritten : (length lent ≡ 125 → ⊥) → write_call state lent ≡ record { answer = false; left = lent }
+  unfolding write_call
   unwritten e = simp (ne_eqb _ _ e)
 
 -- values in parts
-join3 : (a b c : List ℤ) → (pcmBytes a ++ pcmBytes b) ++ pcmBytes c ≡ pcmBytes (a ++ (b ++ c))
+join3 : (a b c : List ℤ) → (pcm_bytes a ++ pcm_bytes b) ++ pcm_bytes c ≡ pcm_bytes (a ++ (b ++ c))
 join3 a b c =
-    append_assoc (pcmBytes a) (pcmBytes b) (pcmBytes c)
-    ∙ ap (λ x. pcmBytes a ++ x) (sym (bytes-join b c)) ∙ sym (bytes-join a (b ++ c))
+    append_assoc (pcm_bytes a) (pcm_bytes b) (pcm_bytes c)
+    ∙ ap (λ x. pcm_bytes a ++ x) (sym (bytes_join b c)) ∙ sym (bytes_join a (b ++ c))
 
-pub band-written : (s : Band) {xs : List ℕ}
-    → Front 40 40 ((pcmBytes s.zeros.b ++ pcmBytes s.zeros.d) ++ pcmBytes (s.poles.a1 ∷ s.poles.a2 ∷ s.poles.r1 ∷ s.poles.r2
+pub band_written : (s : Band) {xs : List ℕ}
+    → Front 40 40 ((pcm_bytes s.zeros.b ++ pcm_bytes s.zeros.d) ++ pcm_bytes (s.poles.a1 ∷ s.poles.a2 ∷ s.poles.r1 ∷ s.poles.r2
     ∷ s.poles.p1 ∷ s.poles.p2 ∷ s.factors.log ∷ s.factors.scale ∷ [])) xs
-    → xs ≡ pcmBytes (bandValues s)
-unfolding bandValues
-band-written s f = whole f ∙ join3 s.zeros.b s.zeros.d _
+    → xs ≡ pcm_bytes (band_values s)
+unfolding band_values
+band_written s f = whole f ∙ join3 s.zeros.b s.zeros.d _
 
-pub coder-written : (c : Coder) {xs : List ℕ}
-    → Front 125 125 ((1 ∷ pcmBytes (bandValues c.low ++ bandValues c.high)) ++ pcmBytes c.past) xs
-    → xs ≡ coderBytes c
-unfolding coderBytes coderValues
-coder-written c f =
-    whole f ∙ ap (λ x. 1 ∷ x) (sym (bytes-join (bandValues c.low ++ bandValues c.high) c.past)
-    ∙ ap pcmBytes (append_assoc (bandValues c.low) (bandValues c.high) c.past))
+pub coder_written : (c : Coder) {xs : List ℕ}
+    → Front 125 125 ((1 ∷ pcm_bytes (band_values c.low ++ band_values c.high)) ++ pcm_bytes c.past) xs
+    → xs ≡ coder_bytes c
+unfolding coder_bytes coder_values
+coder_written c f =
+    whole f ∙ ap (λ x. 1 ∷ x) (sym (bytes_join (band_values c.low ++ band_values c.high) c.past)
+    ∙ ap pcm_bytes (append_assoc (band_values c.low) (band_values c.high) c.past))
 
-pub decoder-written : (d : Decoder) {xs : List ℕ}
-    → Front 125 125 (((2 ∷ pcmBytes (bandValues d.low ++ bandValues d.high)) ++ pcmBytes d.past.rl) ++ pcmBytes d.past.rh) xs
-    → xs ≡ decoderBytes d
-unfolding decoderBytes decoderValues
-decoder-written d f =
-    whole f ∙ ap (λ x. 2 ∷ x) (join3 (bandValues d.low ++ bandValues d.high) d.past.rl d.past.rh
-    ∙ ap pcmBytes (append_assoc (bandValues d.low) (bandValues d.high) (d.past.rl ++ d.past.rh)))
+pub decoder_written : (d : Decoder) {xs : List ℕ}
+    → Front 125 125 (((2 ∷ pcm_bytes (band_values d.low ++ band_values d.high)) ++ pcm_bytes d.past.rl) ++ pcm_bytes d.past.rh) xs
+    → xs ≡ decoder_bytes d
+unfolding decoder_bytes decoder_values
+decoder_written d f =
+    whole f ∙ ap (λ x. 2 ∷ x) (join3 (band_values d.low ++ band_values d.high) d.past.rl d.past.rh
+    ∙ ap pcm_bytes (append_assoc (band_values d.low) (band_values d.high) (d.past.rl ++ d.past.rh)))

@@ -3,36 +3,36 @@
 -- Assumes nothing.
 use Rattle.std.specs.Prelude.{Bool, cond, ◌&&◌, List, [], ◌∷◌, ◌++◌, ℕ, eqb, ℤ, pos, length, get_or, take, drop, replicate}
 use Rattle.laws.specs.Outcome.{Outcome}
-use Rattle.g722.specs.Records.{resetBand}
+use Rattle.g722.specs.Records.{reset_band}
 use Rattle.g722.specs.declared.Band.{Band}
 use Rattle.g722.specs.declared.Coder.{Coder}
 use Rattle.g722.specs.declared.Decoder.{Decoder}
-use Rattle.big_endian.specs.Bytes.{pcmSamples, pcmBytes}
+use Rattle.big_endian.specs.Bytes.{pcm_samples, pcm_bytes}
 
 -- ---- written
 
 -- the 20 values of a band
-unfoldable pub bandValues : Band → List ℤ
-bandValues s =
+unfoldable pub band_values : Band → List ℤ
+band_values s =
     s.zeros.b ++ (s.zeros.d ++ (s.poles.a1 ∷ s.poles.a2 ∷ s.poles.r1 ∷ s.poles.r2 ∷ s.poles.p1 ∷ s.poles.p2
     ∷ s.factors.log ∷ s.factors.scale ∷ []))
 
 -- the 62 of each record
-unfoldable pub coderValues : Coder → List ℤ
-coderValues c = bandValues c.low ++ (bandValues c.high ++ c.past)
+unfoldable pub coder_values : Coder → List ℤ
+coder_values c = band_values c.low ++ (band_values c.high ++ c.past)
 
-unfoldable pub decoderValues : Decoder → List ℤ
-decoderValues d = bandValues d.low ++ (bandValues d.high ++ (d.past.rl ++ d.past.rh))
+unfoldable pub decoder_values : Decoder → List ℤ
+decoder_values d = band_values d.low ++ (band_values d.high ++ (d.past.rl ++ d.past.rh))
 
-unfoldable pub coderBytes : Coder → List ℕ
-coderBytes c = 1 ∷ pcmBytes (coderValues c)
+unfoldable pub coder_bytes : Coder → List ℕ
+coder_bytes c = 1 ∷ pcm_bytes (coder_values c)
 
-unfoldable pub decoderBytes : Decoder → List ℕ
-decoderBytes d = 2 ∷ pcmBytes (decoderValues d)
+unfoldable pub decoder_bytes : Decoder → List ℕ
+decoder_bytes d = 2 ∷ pcm_bytes (decoder_values d)
 
 -- lent bytes that have the length of a state take it; others stay
-unfoldable pub writeCall : List ℕ → List ℕ → Outcome Bool (List ℕ)
-writeCall state lent = record { answer = eqb (length lent) 125; left = cond (eqb (length lent) 125) state lent }
+unfoldable pub write_call : List ℕ → List ℕ → Outcome Bool (List ℕ)
+write_call state lent = record { answer = eqb (length lent) 125; left = cond (eqb (length lent) 125) state lent }
 
 -- ---- read
 
@@ -43,39 +43,39 @@ value v k = get_or v k (pos 0)
 abbrev pub part : ℕ → ℕ → List ℤ → List ℤ
 part from count v = take count (drop from v)
 
-unfoldable pub bandOf : List ℤ → Band
-bandOf v =
+unfoldable pub band_of : List ℤ → Band
+band_of v =
     record {
       zeros = record { b = part 0 6 v; d = part 6 6 v };
       poles = record { a1 = value v 12; a2 = value v 13; r1 = value v 14; r2 = value v 15; p1 = value v 16; p2 = value v 17 };
       factors = record { log = value v 18; scale = value v 19 };
     }
 
-unfoldable pub coderOf : List ℤ → Coder
-coderOf v = record { low = bandOf (part 0 20 v); high = bandOf (part 20 20 v); past = part 40 22 v }
+unfoldable pub coder_of : List ℤ → Coder
+coder_of v = record { low = band_of (part 0 20 v); high = band_of (part 20 20 v); past = part 40 22 v }
 
-unfoldable pub decoderOf : List ℤ → Decoder
-decoderOf v =
-    record { low = bandOf (part 0 20 v); high = bandOf (part 20 20 v); past = record { rl = part 40 11 v; rh = part 51 11 v } }
+unfoldable pub decoder_of : List ℤ → Decoder
+decoder_of v =
+    record { low = band_of (part 0 20 v); high = band_of (part 20 20 v); past = record { rl = part 40 11 v; rh = part 51 11 v } }
 
 -- bytes of a state's length, whose first is the kind
 unfoldable pub holds : ℕ → List ℕ → Bool
 holds kind state = eqb (length state) 125 && eqb (get_or state 0 0) kind
 
 -- What bytes that hold no such record are read as: all zero, the scale factors too. No scale factor is 0, so every call refuses it
-unfoldable pub noCoder : Coder
-noCoder = record { low = resetBand (pos 0); high = resetBand (pos 0); past = replicate 22 (pos 0) }
+unfoldable pub no_coder : Coder
+no_coder = record { low = reset_band (pos 0); high = reset_band (pos 0); past = replicate 22 (pos 0) }
 
-unfoldable pub noDecoder : Decoder
-noDecoder =
+unfoldable pub no_decoder : Decoder
+no_decoder =
     record {
-      low = resetBand (pos 0);
-      high = resetBand (pos 0);
+      low = reset_band (pos 0);
+      high = reset_band (pos 0);
       past = record { rl = replicate 11 (pos 0); rh = replicate 11 (pos 0) };
     }
 
-unfoldable pub coderIn : List ℕ → Coder
-coderIn state = cond (holds 1 state) (coderOf (pcmSamples (drop 1 state))) noCoder
+unfoldable pub coder_in : List ℕ → Coder
+coder_in state = cond (holds 1 state) (coder_of (pcm_samples (drop 1 state))) no_coder
 
-unfoldable pub decoderIn : List ℕ → Decoder
-decoderIn state = cond (holds 2 state) (decoderOf (pcmSamples (drop 1 state))) noDecoder
+unfoldable pub decoder_in : List ℕ → Decoder
+decoder_in state = cond (holds 2 state) (decoder_of (pcm_samples (drop 1 state))) no_decoder

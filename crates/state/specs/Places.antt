@@ -3,7 +3,7 @@
 -- Assumes nothing.
 use Rattle.std.specs.Prelude.{◌≡◌, refl, List, [], ◌∷◌, ℕ, zero, suc, ◌+◌, ℤ, pos}
 use Rattle.g722.specs.declared.Band.{Band}
-use Rattle.state.specs.Layout.{bandValues, coderValues, decoderValues}
+use Rattle.state.specs.Layout.{band_values, coder_values, decoder_values}
 
 -- so many numbers from k up
 abbrev count : ℕ → ℕ → List ℤ
@@ -25,11 +25,11 @@ counted k =
       factors = record { log = pos (k + 18); scale = pos (k + 19) };
     }
 
-coder-places : coderValues (record { low = counted 1; high = counted 21; past = count 41 22 }) ≡ count 1 62
-unfolding coderValues bandValues
-coder-places = refl
+coder_places : coder_values (record { low = counted 1; high = counted 21; past = count 41 22 }) ≡ count 1 62
+unfolding coder_values band_values
+coder_places = refl
 
-decoder-places : decoderValues (record { low = counted 1; high = counted 21; past = record { rl = count 41 11; rh = count 52 11 } })
+decoder_places : decoder_values (record { low = counted 1; high = counted 21; past = record { rl = count 41 11; rh = count 52 11 } })
     ≡ count 1 62
-unfolding decoderValues bandValues
-decoder-places = refl
+unfolding decoder_values band_values
+decoder_places = refl

@@ -1,7 +1,7 @@
 // State bytes to records.
 ghost use Rattle.std.specs.Prelude.{◌≡◌, length};
-ghost use Rattle.big_endian.specs.Bytes.{pcmSamples};
-ghost use Rattle.state.specs.Layout.{bandOf, holds, coderIn, decoderIn};
+ghost use Rattle.big_endian.specs.Bytes.{pcm_samples};
+ghost use Rattle.state.specs.Layout.{band_of, holds, coder_in, decoder_in};
 
 use big_endian::load;
 use bounds::reset_band;
@@ -20,7 +20,7 @@ fn holds(kind: u8, state: &[u8]) -> bool
 // A band from its 20 values.
 fn band(bytes: &[u8]) -> Band
     requires { length bytes.now ≡ 40 }
-    ensures { result ≡ bandOf (pcmSamples bytes.now) }
+    ensures { result ≡ band_of (pcm_samples bytes.now) }
 {
     let mut b = [0i16; 6];
     let mut d = [0i16; 6];
@@ -47,7 +47,7 @@ fn band(bytes: &[u8]) -> Band
 
 // The coder's record that the bytes hold; a broken one where they hold none.
 pub fn read_coder(state: &[u8]) -> Coder
-    ensures { result ≡ coderIn state.now }
+    ensures { result ≡ coder_in state.now }
 {
     if !holds(1, state) {
         return Coder {
@@ -67,7 +67,7 @@ pub fn read_coder(state: &[u8]) -> Coder
 
 // The decoder's.
 pub fn read_decoder(state: &[u8]) -> Decoder
-    ensures { result ≡ decoderIn state.now }
+    ensures { result ≡ decoder_in state.now }
 {
     if !holds(2, state) {
         return Decoder {

@@ -1,8 +1,8 @@
 // Records to state bytes.
 ghost use Rattle.std.specs.Prelude.{◌≡◌, ◌∷◌, ◌++◌, length, take};
 ghost use Rattle.laws.specs.Outcome.{Does};
-ghost use Rattle.big_endian.specs.Bytes.{pcmBytes};
-ghost use Rattle.state.specs.Layout.{bandValues, coderBytes, decoderBytes, writeCall};
+ghost use Rattle.big_endian.specs.Bytes.{pcm_bytes};
+ghost use Rattle.state.specs.Layout.{band_values, coder_bytes, decoder_bytes, write_call};
 
 use big_endian::store;
 use g722::{Band, Coder, Decoder};
@@ -10,7 +10,7 @@ use g722::{Band, Coder, Decoder};
 // A band as its 20 values.
 fn write_band(s: Band, bytes: &mut [u8])
     requires { length bytes.old ≡ 40 }
-    ensures { bytes.new ≡ pcmBytes (bandValues s) }
+    ensures { bytes.new ≡ pcm_bytes (band_values s) }
 {
     let zeros = s.zeros;
     let b = zeros.b;
@@ -26,7 +26,7 @@ fn write_band(s: Band, bytes: &mut [u8])
 // What both records begin with: the kind, and the two bands.
 fn write_bands(kind: u8, low: Band, high: Band, state: &mut [u8])
     requires { length state.old ≡ 125 }
-    ensures { take 81 state.new ≡ kind ∷ pcmBytes (bandValues low ++ bandValues high) }
+    ensures { take 81 state.new ≡ kind ∷ pcm_bytes (band_values low ++ band_values high) }
 {
     state[0] = kind;
     write_band(low, &mut state[1..41]);
@@ -35,7 +35,7 @@ fn write_bands(kind: u8, low: Band, high: Band, state: &mut [u8])
 
 // Writes the coder's record where the bytes have the length of a state, and answers whether they have.
 pub fn write_coder(c: Coder, state: &mut [u8]) -> bool
-    ensures { Does (writeCall (coderBytes c) state.old) result state.new }
+    ensures { Does (write_call (coder_bytes c) state.old) result state.new }
 {
     if state.len() != 125 {
         return false;
@@ -50,7 +50,7 @@ pub fn write_coder(c: Coder, state: &mut [u8]) -> bool
 
 // The decoder's.
 pub fn write_decoder(d: Decoder, state: &mut [u8]) -> bool
-    ensures { Does (writeCall (decoderBytes d) state.old) result state.new }
+    ensures { Does (write_call (decoder_bytes d) state.old) result state.new }
 {
     if state.len() != 125 {
         return false;

@@ -10,31 +10,31 @@ use lib.IntN.{ℤ, pos}
 use lib.ListN.{length, take, get_or, set, replicate}
 use lib.Seq.{take_at}
 use Rattle.laws.specs.Outcome.{Does}
-use Rattle.laws.specs.Machine.{SoFar, begun, more, state-ended, given-ended, last, outs}
+use Rattle.laws.specs.Machine.{SoFar, begun, more, state_ended, given_ended, last, outs}
 use Rattle.g722.specs.Arithmetic.{add, sub, mul}
 use Rattle.g722.specs.Quantise.{quantl, quanth, invqah, invqbl}
-use Rattle.g722.specs.Band.{filtez, filtep, predic, recons, nextZeros, lowAfter, highAfter}
+use Rattle.g722.specs.Band.{filtez, filtep, predic, recons, next_zeros, low_after, high_after}
 use Rattle.g722.specs.Octet.{low_word, high_word}
-use Rattle.g722.specs.Coding.{highWordOf}
-use Rattle.g722.specs.Decoding.{ylOf, yhOf}
+use Rattle.g722.specs.Coding.{high_word_of}
+use Rattle.g722.specs.Decoding.{yl_of, yh_of}
 use Rattle.g722.specs.declared.Zeros.{Zeros}
 use Rattle.g722.specs.declared.Poles.{Poles}
 use Rattle.g722.specs.declared.Factors.{Factors}
 use Rattle.g722.specs.declared.Band.{Band}
-use Rattle.at_hand.specs.Signed.{outputAt, outputsOf, outputs-at, invqah-by, invqbl-by}
-use Rattle.idle.specs.Rows.{zerosAt, Quiet, begun-six, begun-quiet}
-use Rattle.idle.specs.Recursive.{polesOf, Fit}
-use Rattle.idle.specs.Factors.{factorsOf, Held}
+use Rattle.at_hand.specs.Signed.{output_at, outputs_of, outputs_at, invqah_by, invqbl_by}
+use Rattle.idle.specs.Rows.{zeros_at, Quiet, begun_six, begun_quiet}
+use Rattle.idle.specs.Recursive.{poles_of, Fit}
+use Rattle.idle.specs.Factors.{factors_of, Held}
 use Rattle.idle.specs.declared.Recursive.{Recursive}
 use Rattle.idle.specs.declared.Scales.{Scales}
-use Rattle.sweep.specs.Block.{word_of, codedNext, signalOf, heardNext}
-use Rattle.sweep.specs.Turn.{Step, step_of, stepBy, Sound, CodedBy, word_in, HeardBy, bandOf, afterWord, turn-after}
+use Rattle.sweep.specs.Block.{word_of, coded_next, signal_of, heard_next}
+use Rattle.sweep.specs.Turn.{Step, step_of, step_by, Sound, CodedBy, word_in, HeardBy, band_of, after_word, turn_after}
 use Rattle.sweep.specs.declared.Turned.{Turned}
 use Rattle.sweep.specs.declared.Said.{Said}
 use Rattle.sweep.specs.declared.Heard.{Heard}
 
 abbrev pub standing : List ℤ → ℕ → List ℤ → ℕ → Recursive → Scales → Band
-standing b o d i p f = bandOf (zerosAt b o d i) (polesOf p) (factorsOf f)
+standing b o d i p f = band_of (zeros_at b o d i) (poles_of p) (factors_of f)
 
 -- a loop of either end after i turns
 pub record Going {A B : Type 0} (out : Band → A → B) (next : Band → A → Band) (s₀ : Band) (xs : List A) (o₀ : List B)
@@ -50,18 +50,18 @@ pub record Started (s : Band) (b d : List ℤ) (p : Recursive) (f : Scales) : Ty
   pub long : (length s.zeros.b ≡ 6) × (length s.zeros.d ≡ 6)
   pub rows : b ≡ s.zeros.b ++ replicate 10 (pos 0)
   pub history : take 8 d ≡ s.zeros.d ++ (pos 0 ∷ pos 0 ∷ [])
-  pub poles : (polesOf p ≡ s.poles) × Fit p
-  pub factors : (factorsOf f ≡ s.factors) × Held f
+  pub poles : (poles_of p ≡ s.poles) × Fit p
+  pub factors : (factors_of f ≡ s.factors) × Held f
 
 module _ {s : Band} {b₀ d₀ : List ℤ} {p₀ : Recursive} {f₀ : Scales} (t : Started s b₀ d₀ p₀ f₀) where
-  standing-start : standing b₀ 0 d₀ 0 p₀ f₀ ≡ s
-  unfolding zerosAt
-  standing-start =
+  standing_start : standing b₀ 0 d₀ 0 p₀ f₀ ≡ s
+  unfolding zeros_at
+  standing_start =
       λ j. record {
         zeros =
             record {
               b = (ap (take 6) t.rows ∙ take_at s.zeros.b (replicate 10 (pos 0)) 6 t.long.0) j;
-              d = begun-six s.zeros.d d₀ t.history t.long.1 j;
+              d = begun_six s.zeros.d d₀ t.history t.long.1 j;
             };
         poles = t.poles.0 j;
         factors = t.factors.0 j;
@@ -72,7 +72,7 @@ module _ {s : Band} {b₀ d₀ : List ℤ} {p₀ : Recursive} {f₀ : Scales} (t
     going_start =
         record {
           row = omega arith;
-          quiet = begun-quiet s.zeros.d d₀ t.history t.long.1;
+          quiet = begun_quiet s.zeros.d d₀ t.history t.long.1;
           fit = t.poles.1;
           held = t.factors.1;
           run = begun out next _ xs o₀;
@@ -81,15 +81,15 @@ module _ {s : Band} {b₀ d₀ : List ℤ} {p₀ : Recursive} {f₀ : Scales} (t
     -- at the end the band that they stand for and what was given are the run's
     pub ended : {b d : List ℤ} {p : Recursive} {f : Scales} {o : ℕ} {ys : List B} {i : ℕ} {z : Zeros} {pl : Poles} {fs : Factors}
         → Going out next (standing b₀ 0 d₀ 0 p₀ f₀) xs o₀ b d p f o ys i → length xs ≤ i → length ys ≡ i
-        → z ≡ zerosAt b o d (length ys) → pl ≡ polesOf p → fs ≡ factorsOf f
-        → Does (record { answer = last next s xs; left = outs out next s xs }) (bandOf z pl fs) ys
+        → z ≡ zeros_at b o d (length ys) → pl ≡ poles_of p → fs ≡ factors_of f
+        → Does (record { answer = last next s xs; left = outs out next s xs }) (band_of z pl fs) ys
     ended {b} {d} {p} {f} {o} {ys} {i} v h k z≡ p≡ f≡ =
         record {
           answer =
-              (λ j. bandOf ((z≡ ∙ ap (zerosAt b o d) k) j) (p≡ j) (f≡ j))
-              ∙ state-ended out next _ xs o₀ v.run h
-              ∙ (λ j. last next (standing-start j) xs);
-          left = given-ended out next _ xs o₀ v.run h (omega arith) ∙ (λ j. outs out next (standing-start j) xs);
+              (λ j. band_of ((z≡ ∙ ap (zeros_at b o d) k) j) (p≡ j) (f≡ j))
+              ∙ state_ended out next _ xs o₀ v.run h
+              ∙ (λ j. last next (standing_start j) xs);
+          left = given_ended out next _ xs o₀ v.run h (omega arith) ∙ (λ j. outs out next (standing_start j) xs);
         }
 
 -- a turn on
@@ -111,49 +111,49 @@ going_on v x h k sound quiet w≡ n≡ =
 -- ---- a turn
 
 -- the band after the word of a signal
-after-said : (high : Bool) (s : Band) (x : ℤ) → afterWord high s (word_of high s x) ≡ codedNext high s x
-unfolding afterWord word_of codedNext
-after-said true s x =
-    let e : highWordOf s x * 4 / 4 ≡ highWordOf s x = omega (arith, div-add-mod' (highWordOf s x * 4) 4) in
-    ap (highAfter s) e
-after-said false s x = refl
+after_said : (high : Bool) (s : Band) (x : ℤ) → after_word high s (word_of high s x) ≡ coded_next high s x
+unfolding after_word word_of coded_next
+after_said true s x =
+    let e : high_word_of s x * 4 / 4 ≡ high_word_of s x = omega (arith, div-add-mod' (high_word_of s x * 4) 4) in
+    ap (high_after s) e
+after_said false s x = refl
 
 -- an octet's word in six bits, and what goes by it
-in-six : (high : Bool) (o : ℕ) → word_in high o < 64
+in_six : (high : Bool) (o : ℕ) → word_in high o < 64
 unfolding word_in
-in-six high o = omega (arith, div-add-mod' (o / cond high 16 1) 64)
+in_six high o = omega (arith, div-add-mod' (o / cond high 16 1) 64)
 
-high-in : (o : ℕ) → o < 256 → word_in true o / 4 ≡ high_word o
+high_in : (o : ℕ) → o < 256 → word_in true o / 4 ≡ high_word o
 unfolding word_in
-high-in o h = omega (arith, div-add-mod' o 16, div-add-mod' (o / 16) 64, div-add-mod' (o / 16 % 64) 4, div-add-mod' o 64)
+high_in o h = omega (arith, div-add-mod' o 16, div-add-mod' (o / 16) 64, div-add-mod' (o / 16 % 64) 4, div-add-mod' o 64)
 
-low-in : (o : ℕ) → word_in false o ≡ low_word o
+low_in : (o : ℕ) → word_in false o ≡ low_word o
 unfolding word_in
-low-in o = let e : o / 1 ≡ o = omega (arith, div-add-mod' o 1) in ap (λ (n : ℕ). n % 64) e
+low_in o = let e : o / 1 ≡ o = omega (arith, div-add-mod' o 1) in ap (λ (n : ℕ). n % 64) e
 
-by-output : (high : Bool) (mode : ℕ) (s : Band) (o : ℕ) → o < 256
-    → add (predic s) (mul s.factors.scale (outputAt high mode (word_in high o))) ≡ signalOf high mode s o
-unfolding signalOf ylOf yhOf recons
-by-output true mode s o h =
-    ap (add (predic s)) (invqah-by mode (word_in true o) s.factors.scale ∙ ap (λ (w : ℕ). invqah w s.factors.scale) (high-in o h))
-by-output false mode s o h =
-    ap (add (predic s)) (invqbl-by mode (word_in false o) s.factors.scale ∙ ap (λ (w : ℕ). invqbl mode w s.factors.scale) (low-in o))
+by_output : (high : Bool) (mode : ℕ) (s : Band) (o : ℕ) → o < 256
+    → add (predic s) (mul s.factors.scale (output_at high mode (word_in high o))) ≡ signal_of high mode s o
+unfolding signal_of yl_of yh_of recons
+by_output true mode s o h =
+    ap (add (predic s)) (invqah_by mode (word_in true o) s.factors.scale ∙ ap (λ (w : ℕ). invqah w s.factors.scale) (high_in o h))
+by_output false mode s o h =
+    ap (add (predic s)) (invqbl_by mode (word_in false o) s.factors.scale ∙ ap (λ (w : ℕ). invqbl mode w s.factors.scale) (low_in o))
 
-after-heard : (high : Bool) (s : Band) (o : ℕ) → o < 256 → afterWord high s (word_in high o) ≡ heardNext high s o
-unfolding afterWord heardNext
-after-heard true s o h = ap (highAfter s) (high-in o h)
-after-heard false s o h = ap (lowAfter s) (low-in o)
+after_heard : (high : Bool) (s : Band) (o : ℕ) → o < 256 → after_word high s (word_in high o) ≡ heard_next high s o
+unfolding after_word heard_next
+after_heard true s o h = ap (high_after s) (high_in o h)
+after_heard false s o h = ap (low_after s) (low_in o)
 
 module _ (high : Bool) (z : Zeros) (p : Poles) (f : Factors) {sz : ℤ} (sz≡ : sz ≡ filtez z) where
   abbrev s : Band
-  s = bandOf z p f
+  s = band_of z p f
 
   -- the band after a step by its word
-  by_word : (w : ℕ) {t : Step} {z' : Zeros} → t ≡ stepBy high p f sz (add (filtep p) sz) w → z' ≡ nextZeros z t.d
-      → bandOf z' t.poles t.factors ≡ afterWord high s w
+  by_word : (w : ℕ) {t : Step} {z' : Zeros} → t ≡ step_by high p f sz (add (filtep p) sz) w → z' ≡ next_zeros z t.d
+      → band_of z' t.poles t.factors ≡ after_word high s w
   by_word w {t} t≡ z≡ =
-      let e : t ≡ stepBy high p f (filtez z) (add (filtep p) (filtez z)) w = t≡ ∙ λ j. stepBy high p f (sz≡ j) (add (filtep p) (sz≡ j)) w in
-      (λ j. bandOf ((z≡ ∙ ap (λ (u : Step). nextZeros z u.d) e) j) (e j).poles (e j).factors) ∙ turn-after high z p f w
+      let e : t ≡ step_by high p f (filtez z) (add (filtep p) (filtez z)) w = t≡ ∙ λ j. step_by high p f (sz≡ j) (add (filtep p) (sz≡ j)) w in
+      (λ j. band_of ((z≡ ∙ ap (λ (u : Step). next_zeros z u.d) e) j) (e j).poles (e j).factors) ∙ turn_after high z p f w
 
   module _ {x : ℤ} {r : Said} (h : CodedBy high p f sz x r) where
     pub said : r.word ≡ word_of high s x
@@ -162,22 +162,22 @@ module _ (high : Bool) (z : Zeros) (p : Poles) (f : Factors) {sz : ℤ} (sz≡ :
         h.word
         ∙ λ j. let e = sub x (add (filtep p) (sz≡ j)) in cond high (quanth e f.scale * 4) (quantl e f.scale)
 
-    pub coded-turn : {z' : Zeros} → z' ≡ nextZeros z r.turn.d
-        → bandOf z' (polesOf r.turn.poles) (factorsOf r.turn.factors) ≡ codedNext high s x
+    pub coded_turn : {z' : Zeros} → z' ≡ next_zeros z r.turn.d
+        → band_of z' (poles_of r.turn.poles) (factors_of r.turn.factors) ≡ coded_next high s x
     unfolding step_of
-    coded-turn z≡ = by_word r.word h.step z≡ ∙ ap (afterWord high s) said ∙ after-said high s x
+    coded_turn z≡ = by_word r.word h.step z≡ ∙ ap (after_word high s) said ∙ after_said high s x
 
-  module _ (mode : ℕ) {o : ℕ} (octet : o < 256) {q : List ℤ} (q≡ : q ≡ outputsOf high mode)
+  module _ (mode : ℕ) {o : ℕ} (octet : o < 256) {q : List ℤ} (q≡ : q ≡ outputs_of high mode)
       {r : Heard} (h : HeardBy high q p f sz o r) where
-    pub heard : r.signal ≡ signalOf high mode s o
+    pub heard : r.signal ≡ signal_of high mode s o
     unfolding predic
     heard =
         h.signal
         ∙ (λ j. add (add (filtep p) (sz≡ j)) (mul f.scale (get_or (q≡ j) (word_in high o) (pos 0))))
-        ∙ ap (λ (v : ℤ). add (add (filtep p) (filtez z)) (mul f.scale v)) (outputs-at high mode (word_in high o) (in-six high o))
-        ∙ by-output high mode s o octet
+        ∙ ap (λ (v : ℤ). add (add (filtep p) (filtez z)) (mul f.scale v)) (outputs_at high mode (word_in high o) (in_six high o))
+        ∙ by_output high mode s o octet
 
-    pub heard-turn : {z' : Zeros} → z' ≡ nextZeros z r.turn.d
-        → bandOf z' (polesOf r.turn.poles) (factorsOf r.turn.factors) ≡ heardNext high s o
+    pub heard_turn : {z' : Zeros} → z' ≡ next_zeros z r.turn.d
+        → band_of z' (poles_of r.turn.poles) (factors_of r.turn.factors) ≡ heard_next high s o
     unfolding step_of
-    heard-turn z≡ = by_word (word_in high o) h.step z≡ ∙ after-heard high s o octet
+    heard_turn z≡ = by_word (word_in high o) h.step z≡ ∙ after_heard high s o octet

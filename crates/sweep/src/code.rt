@@ -3,10 +3,10 @@ ghost use Rattle.std.specs.Prelude.{◌≡◌, true, cond, ◌*◌, ◌^◌, ◌
 ghost use Rattle.std.specs.Int.Signed.{mag};
 ghost use Rattle.laws.specs.Outcome.{Does};
 ghost use Rattle.g722.specs.Quantise.{quantl, quanth};
-ghost use Rattle.g722.specs.Records.{goodPoles};
-ghost use Rattle.idle.specs.Recursive.{polesOf, Fit};
-ghost use Rattle.idle.specs.Factors.{factorsOf, Held};
-ghost use Rattle.sweep.specs.Block.{codedRun, coded_block};
+ghost use Rattle.g722.specs.Records.{good_poles};
+ghost use Rattle.idle.specs.Recursive.{poles_of, Fit};
+ghost use Rattle.idle.specs.Factors.{factors_of, Held};
+ghost use Rattle.sweep.specs.Block.{coded_run, coded_block};
 ghost use Rattle.sweep.specs.Turn.{Lent, CodedBy};
 
 use crate::factors::{factors, scales};
@@ -45,7 +45,7 @@ fn code_turn(
     requires fit { Fit p }
     requires held { Held f }
     requires sz_bound { mag sz < 2 ^ 15 }
-    ensures { CodedBy high (polesOf p) (factorsOf f) sz x result }
+    ensures { CodedBy high (poles_of p) (factors_of f) sz x result }
 {
     let s = predic(p, sz);
     let word = word(high, sub(x, s as i16), f.scale as i16);
@@ -59,8 +59,8 @@ fn code_turn(
 fn code_all(high: bool, s: Band, x: &[i16], words: &mut [u8]) -> Band
     requires words_len_bound { length words.old ≤ 160 }
     requires x_len { length x.now ≡ length words.old }
-    requires poles_value { goodPoles s.poles ≡ true }
-    ensures { Does (codedRun high s x.now) result words.new }
+    requires poles_value { good_poles s.poles ≡ true }
+    ensures { Does (coded_run high s x.now) result words.new }
 {
     let ilb = ilb();
     let q = outputs(high, 3);

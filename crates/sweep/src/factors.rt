@@ -2,7 +2,7 @@
 ghost use Rattle.std.specs.Prelude.{◌≡◌, cond, ◌≤◌, nat_abs};
 ghost use Rattle.g722.specs.Tables.{ilb};
 ghost use Rattle.g722.specs.Quantise.{scale_at};
-ghost use Rattle.idle.specs.Factors.{factorsOf, Held, top, weighed};
+ghost use Rattle.idle.specs.Factors.{factors_of, Held, top, weighed};
 
 use crate::poles::fit;
 use arith::{clamp, wide};
@@ -11,7 +11,7 @@ use idle::Scales;
 
 // The factors of a record in 32 bits.
 pub(crate) fn scales(f: Factors) -> Scales
-    ensures { (factorsOf result ≡ f) × Held result }
+    ensures { (factors_of result ≡ f) × Held result }
 {
     Scales {
         log: wide(f.log),
@@ -22,7 +22,7 @@ pub(crate) fn scales(f: Factors) -> Scales
 // And back.
 pub(crate) fn factors(f: Scales) -> Factors
     requires { Held f }
-    ensures { result ≡ factorsOf f }
+    ensures { result ≡ factors_of f }
 {
     Factors {
         log: clamp(f.log, -32768, 32767),
@@ -63,7 +63,7 @@ fn scale_at(table: &[u16; 32], k: usize) -> i32
 pub(crate) fn weighed(high: bool, table: &[u16; 32], f: Scales, w: i16) -> Scales
     requires table_value { table.now ≡ ilb }
     requires held { Held f }
-    ensures { (factorsOf result ≡ weighed high w (factorsOf f)) × Held result }
+    ensures { (factors_of result ≡ weighed high w (factors_of f)) × Held result }
 {
     let log = fit(((f.log * 32512) >> 15) + wide(w), 0, top(high));
     let k = log as u32 / 64 + first(high);

@@ -2,10 +2,10 @@
 ghost use Rattle.std.specs.Prelude.{◌≡◌, true, cond, ◌^◌, ◌≤◌, ◌<◌, length};
 ghost use Rattle.std.specs.Int.Signed.{mag};
 ghost use Rattle.laws.specs.Outcome.{Does};
-ghost use Rattle.g722.specs.Records.{goodPoles};
-ghost use Rattle.idle.specs.Recursive.{polesOf, Fit};
-ghost use Rattle.idle.specs.Factors.{factorsOf, Held};
-ghost use Rattle.sweep.specs.Block.{heardRun, heardBlock};
+ghost use Rattle.g722.specs.Records.{good_poles};
+ghost use Rattle.idle.specs.Recursive.{poles_of, Fit};
+ghost use Rattle.idle.specs.Factors.{factors_of, Held};
+ghost use Rattle.sweep.specs.Block.{heard_run, heard_block};
 ghost use Rattle.sweep.specs.Turn.{Lent, Outputs, word_in, HeardBy};
 
 use crate::factors::{factors, scales};
@@ -52,7 +52,7 @@ fn hear_turn(
     requires held { Held f }
     requires sz_bound { mag sz < 2 ^ 15 }
     requires outputs { Outputs high h.now }
-    ensures { HeardBy high h.now (polesOf p) (factorsOf f) sz o result }
+    ensures { HeardBy high h.now (poles_of p) (factors_of f) sz o result }
 {
     let s = predic(p, sz);
     let word = word(high, o);
@@ -67,8 +67,8 @@ fn hear_turn(
 fn hear_all(high: bool, mode: u8, s: Band, octets: &[u8], signals: &mut [i16]) -> Band
     requires signals_len_bound { length signals.old ≤ 160 }
     requires octets_len { length octets.now ≡ length signals.old }
-    requires poles_value { goodPoles s.poles ≡ true }
-    ensures { Does (heardRun high mode s octets.now) result signals.new }
+    requires poles_value { good_poles s.poles ≡ true }
+    ensures { Does (heard_run high mode s octets.now) result signals.new }
 {
     let ilb = ilb();
     let q = outputs(high, 3);
@@ -105,7 +105,7 @@ fn hear_all(high: bool, mode: u8, s: Band, octets: &[u8], signals: &mut [i16]) -
 
 // A band's signals of a block of octets, in a mode in force. What is no block is given back as it came.
 pub fn hear_band(high: bool, mode: u8, s: Band, octets: &[u8], signals: &mut [i16]) -> Band
-    ensures { Does (heardBlock high mode s octets.now signals.old) result signals.new }
+    ensures { Does (heard_block high mode s octets.now signals.old) result signals.new }
 {
     let poles = s.poles;
     if !takes(poles, octets.len(), signals.len()) {

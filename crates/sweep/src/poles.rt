@@ -2,9 +2,9 @@
 ghost use Rattle.std.specs.Prelude.{◌≡◌, cond, ◌≤◌, pos, nat_abs, ◌+ℤ◌, ◌*ℤ◌};
 ghost use Rattle.std.specs.Int.Signed.{shr_z};
 ghost use Rattle.laws.specs.Clamp.{clamp};
-ghost use Rattle.g722.specs.Arithmetic.{neg, stop, sameSign};
-ghost use Rattle.g722.specs.Band.{filtep, nextPoles};
-ghost use Rattle.idle.specs.Recursive.{polesOf, Fit, turnedBy, second_of, first_of};
+ghost use Rattle.g722.specs.Arithmetic.{neg, stop, same_sign};
+ghost use Rattle.g722.specs.Band.{filtep, next_poles};
+ghost use Rattle.idle.specs.Recursive.{poles_of, Fit, turned_by, second_of, first_of};
 
 use arith::{clamp, wide};
 use g722::Poles;
@@ -25,7 +25,7 @@ pub(crate) fn fit(x: i32, lo: i32, hi: i32) -> i32
 
 // Whether a and b have one sign.
 fn same(a: i32, b: i32) -> bool
-    ensures { result ≡ sameSign a b }
+    ensures { result ≡ same_sign a b }
 {
     if a < 0 {
         return b < 0;
@@ -63,7 +63,7 @@ fn twice(r: i32) -> i32
 // Four times the first coefficient, after its sign and its shift by 7.
 fn turned(t: bool, a1: i32) -> i32
     requires { nat_abs a1 ≤ 27648 }
-    ensures { (result ≡ turnedBy t a1) × (nat_abs result ≤ 256) }
+    ensures { (result ≡ turned_by t a1) × (nat_abs result ≤ 256) }
 {
     fit(choose(t, 0 - a1, a1) >> 5, -256, 255)
 }
@@ -97,7 +97,7 @@ fn first(one: bool, a1: i32, a2: i32) -> i32
 // FILTEP.
 pub(crate) fn filtep(w: Recursive) -> i32
     requires { Fit w }
-    ensures { (result ≡ filtep (polesOf w)) × (nat_abs result ≤ 32768) }
+    ensures { (result ≡ filtep (poles_of w)) × (nat_abs result ≤ 32768) }
 {
     fit(scaled(w.a1, w.t1) + scaled(w.a2, w.t2), -32768, 32767)
 }
@@ -106,7 +106,7 @@ pub(crate) fn filtep(w: Recursive) -> i32
 pub(crate) fn next(w: Recursive, p: i32, r: i32) -> Recursive
     requires fit { Fit w }
     requires r_bound { nat_abs r ≤ 65536 }
-    ensures { (polesOf result ≡ nextPoles (polesOf w) (stop p) (stop r)) × Fit result }
+    ensures { (poles_of result ≡ next_poles (poles_of w) (stop p) (stop r)) × Fit result }
 {
     let one = same(p, w.p1);
     let two = same(p, w.p2);
@@ -127,7 +127,7 @@ pub(crate) fn next(w: Recursive, p: i32, r: i32) -> Recursive
 // A record's recursive part in 32 bits, where its coefficients keep their bounds.
 pub(crate) fn widened(s: Poles) -> Recursive
     requires { (nat_abs s.a1 ≤ 27648) × (nat_abs s.a2 ≤ 12288) }
-    ensures { (polesOf result ≡ s) × Fit result }
+    ensures { (poles_of result ≡ s) × Fit result }
 {
     Recursive {
         a1: wide(s.a1),
@@ -144,7 +144,7 @@ pub(crate) fn widened(s: Poles) -> Recursive
 // And back.
 pub(crate) fn narrowed(w: Recursive) -> Poles
     requires { Fit w }
-    ensures { result ≡ polesOf w }
+    ensures { result ≡ poles_of w }
 {
     Poles {
         a1: clamp(w.a1, -32768, 32767),

@@ -1,9 +1,9 @@
 // The transversal part over a block: its coefficients in two rows of eight lanes that take turns, its differences in one history.
 ghost use Rattle.std.specs.Prelude.{◌≡◌, [], ◌∷◌, ◌++◌, ◌+◌, ◌-◌, ◌^◌, ◌≤◌, ◌<◌, pos, length, take, drop, replicate};
 ghost use Rattle.std.specs.Int.Signed.{mag};
-ghost use Rattle.g722.specs.Band.{filtez, nextZeros};
+ghost use Rattle.g722.specs.Band.{filtez, next_zeros};
 ghost use Rattle.lanes.specs.Sum.{plain_of};
-ghost use Rattle.idle.specs.Rows.{zerosAt, Quiet};
+ghost use Rattle.idle.specs.Rows.{zeros_at, Quiet};
 
 use arith::{add, mul, wide};
 use g722::Zeros;
@@ -71,7 +71,7 @@ pub(crate) fn begin(history: &mut [i16], d: [i16; 6])
 pub(crate) fn gathered(b: &[i16; 16], d: &[i16; 168], o: usize, i: usize) -> Zeros
     requires o_bound { o ≤ 8 }
     requires i_bound { i ≤ 160 }
-    ensures { result ≡ zerosAt b.now o d.now i }
+    ensures { result ≡ zeros_at b.now o d.now i }
 {
     let nb = six(b, o);
     let nd = six(d, i);
@@ -83,7 +83,7 @@ fn chain(b: &[i16; 16], d: &[i16; 168], o: usize, i: usize) -> i16
     requires o_bound { o ≤ 8 }
     requires i_bound { i ≤ 160 }
     requires b_len { (length b.now ≡ 16) × (length d.now ≡ 168) }
-    ensures { result ≡ filtez (zerosAt b.now o d.now i) }
+    ensures { result ≡ filtez (zeros_at b.now o d.now i) }
 {
     let mut sum: i16 = 0;
     for k in 0..6 {
@@ -109,7 +109,7 @@ pub(crate) fn filtez_at(b: &[i16; 16], d: &[i16; 168], o: usize, i: usize, p: Pl
     requires quiet { Quiet d.now i }
     requires b_len { (length b.now ≡ 16) × (length d.now ≡ 168) }
     requires p_value { p ≡ plain_of (take 8 (drop o b.now)) (take 8 (drop i d.now)) }
-    ensures { (result ≡ filtez (zerosAt b.now o d.now i)) × (mag result < 2 ^ 15) }
+    ensures { (result ≡ filtez (zeros_at b.now o d.now i)) × (mag result < 2 ^ 15) }
 {
     if p.whole {
         return p.sum;
@@ -122,8 +122,8 @@ pub(crate) fn filtez_at(b: &[i16; 16], d: &[i16; 168], o: usize, i: usize, p: Pl
 pub(crate) fn adapt_at(b: &mut [i16; 16], d: &mut [i16; 168], o: usize, i: usize, e: i16)
     requires o_bound { o ≤ 8 }
     requires i_bound { i < 160 }
-    ensures i_after { zerosAt b.new (8 - o) d.new (i + 1)
-        ≡ nextZeros (zerosAt b.old o d.old i) e }
+    ensures i_after { zeros_at b.new (8 - o) d.new (i + 1)
+        ≡ next_zeros (zeros_at b.old o d.old i) e }
     ensures quiet { Quiet d.old i → Quiet d.new (i + 1) }
 {
     let n = adapt(eight(b, o), eight(d, i), e);

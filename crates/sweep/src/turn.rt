@@ -3,9 +3,9 @@ ghost use Rattle.std.specs.Prelude.{◌≡◌, ◌^◌, ◌≤◌, ◌<◌, nat_
 ghost use Rattle.std.specs.Int.Signed.{mag};
 ghost use Rattle.g722.specs.Arithmetic.{add, mul};
 ghost use Rattle.g722.specs.Band.{filtep};
-ghost use Rattle.idle.specs.Recursive.{polesOf, Fit};
-ghost use Rattle.idle.specs.Factors.{factorsOf, Held};
-ghost use Rattle.sweep.specs.Turn.{Lent, Sound, step_of, stepBy};
+ghost use Rattle.idle.specs.Recursive.{poles_of, Fit};
+ghost use Rattle.idle.specs.Factors.{factors_of, Held};
+ghost use Rattle.sweep.specs.Turn.{Lent, Sound, step_of, step_by};
 
 use crate::Turned;
 use crate::factors::weighed;
@@ -17,7 +17,7 @@ use idle::{Recursive, Scales};
 pub(crate) fn predic(p: Recursive, sz: i32) -> i32
     requires fit { Fit p }
     requires sz_bound { mag sz < 2 ^ 15 }
-    ensures { (result ≡ add (filtep (polesOf p)) sz) × (mag result < 2 ^ 15) }
+    ensures { (result ≡ add (filtep (poles_of p)) sz) × (mag result < 2 ^ 15) }
 {
     fit(filtep(p) + sz, -32768, 32767)
 }
@@ -47,7 +47,7 @@ pub(crate) fn turn(
     requires fit { Fit p }
     requires held { Held f }
     requires sz_bound { (mag sz < 2 ^ 15) × (mag s < 2 ^ 15) × (word < 64) }
-    ensures { (step_of result ≡ stepBy high (polesOf p) (factorsOf f) sz s word) × Sound result }
+    ensures { (step_of result ≡ step_by high (poles_of p) (factors_of f) sz s word) × Sound result }
 {
     let d = inverse(q[word as usize], f.scale);
     Turned {

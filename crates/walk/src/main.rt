@@ -1,6 +1,6 @@
 // Walks a recording, lent as a whole, by the reader, and writes the lines of the listing. A recording of up to 128 blocks is read.
 ghost use Rattle.std.specs.Prelude.{◌≡◌, ◌≤◌, length};
-ghost use Rattle.reader.specs.Walk.{stepAt, next_at};
+ghost use Rattle.reader.specs.Walk.{step_at, next_at};
 
 use libc::{STDERR_FILENO, STDIN_FILENO, STDOUT_FILENO};
 use lines::Line;
@@ -9,14 +9,14 @@ use reader::{Reader, Step};
 
 // What the reader says at first.
 fn first(src: &[u8]) -> Step
-    ensures { result ≡ stepAt src.now 0 }
+    ensures { result ≡ step_at src.now 0 }
 {
     reader::next(reader::new(src))
 }
 
 // What the reader says after it moved on from block number `at`.
 fn after(src: &[u8], at: usize) -> Step
-    ensures { result ≡ stepAt src.now (next_at src.now at) }
+    ensures { result ≡ step_at src.now (next_at src.now at) }
 {
     reader::next(reader::moved_on(Reader { src, at }))
 }

@@ -1,12 +1,12 @@
 // Code words to sign and interval, and back, decided over ranges of the word, with rows for words that are never sent.
 ghost use Rattle.std.specs.Prelude.{◌≡◌};
-ghost use Rattle.g722.specs.Words.{toSix, fromFour, fromSix, fromFive, toTwo, fromTwo};
+ghost use Rattle.g722.specs.Words.{to_six, from_four, from_six, from_five, to_two, from_two};
 
 use g722::Interval;
 
 // Table 16: the 6-bit word of an interval of the low band.
 pub fn to_six(v: Interval) -> u8
-    ensures { result ≡ toSix v }
+    ensures { result ≡ to_six v }
 {
     let m = v.number;
     if v.negative {
@@ -24,7 +24,7 @@ pub fn to_six(v: Interval) -> u8
 
 // Table 17: the interval of a 4-bit word. 0000 is never sent.
 pub fn from_four(w: u8) -> Interval
-    ensures { result ≡ fromFour w }
+    ensures { result ≡ from_four w }
 {
     match w {
         0 => Interval {
@@ -48,7 +48,7 @@ pub fn from_four(w: u8) -> Interval
 
 // Table 18: the interval of a 6-bit word. 000000 to 000011 are never sent.
 pub fn from_six(w: u8) -> Interval
-    ensures { result ≡ fromSix w }
+    ensures { result ≡ from_six w }
 {
     match w {
         0..=3 => Interval {
@@ -76,7 +76,7 @@ pub fn from_six(w: u8) -> Interval
 
 // Table 19: the interval of a 5-bit word. 00000 and 00001 are never sent.
 pub fn from_five(w: u8) -> Interval
-    ensures { result ≡ fromFive w }
+    ensures { result ≡ from_five w }
 {
     match w {
         0..=1 => Interval {
@@ -104,7 +104,7 @@ pub fn from_five(w: u8) -> Interval
 
 // Table 20: the 2-bit word of an interval of the high band.
 pub fn to_two(v: Interval) -> u8
-    ensures { result ≡ toTwo v }
+    ensures { result ≡ to_two v }
 {
     let m = v.number;
     if v.negative {
@@ -121,7 +121,7 @@ pub fn to_two(v: Interval) -> u8
 
 // Table 21: the interval of a 2-bit word.
 pub fn from_two(w: u8) -> Interval
-    ensures { result ≡ fromTwo w }
+    ensures { result ≡ from_two w }
 {
     match w {
         0..=1 => Interval {

@@ -6,7 +6,7 @@ use native.Mathlib.Omega.{arith}
 use lib.ListN.{length, drop, get_or, drop_of_length-le}
 use borrow.Author.Tests.{eq-eqb, ne_eqb}
 use borrow.Author.Rules.{rules}
-use Rattle.laws.specs.Turns.{drop-one}
+use Rattle.laws.specs.Turns.{drop_one}
 use Rattle.argument.specs.Number.{with, on, number_of}
 use Rattle.argument.proofs.number.Statement.{statement}
 use Rattle.argument.proofs.number.Tie as tie
@@ -14,7 +14,7 @@ use Rattle.argument.proofs.number.Tie as tie
 -- one digit more
 more : (s : List ℕ) (n next i : ℕ) → i < length s → next ≡ with n (get_or s i 0) → on next (drop (i + 1) s) ≡ on n (drop i s)
 unfolding on
-more s n next i h e = rw (drop-one s i 0 h, e)
+more s n next i h e = rw (drop_one s i 0 h, e)
 
 abbrev invariant-loop : tie.invariant-loop
 invariant-loop word all₀ i₀ all i = (i ≤ length word) × (all ≤ 4294967296) × (on all (drop i word) ≡ number_of word)

@@ -4,8 +4,8 @@ use mathlib.Core.Bool.{true, false}
 use lib.Signed.{lt_z}
 use mir.Facts.{to_z-of_z}
 use Rattle.laws.specs.Back.{got32}
-use Rattle.laws.specs.Clamp.{clamp-low, clamp-high, clamp-mid}
-use Rattle.laws.specs.Size.{fits-between}
+use Rattle.laws.specs.Clamp.{clamp_low, clamp_high, clamp_mid}
+use Rattle.laws.specs.Size.{fits_between}
 use Rattle.arith.proofs.clamp.Statement.{statement}
 use Rattle.arith.proofs.clamp.Tie as tie
 
@@ -13,7 +13,7 @@ returns : tie.Need-returns
 returns c =
     let s = c.before.before in
     let t : lt_z s.args.x s.args.lo ≡ true = cc (to_z-of_z s.ranges.x, to_z-of_z s.ranges.lo, got32 c.before.wide) in
-    to_z-of_z s.ranges.lo ∙ sym (clamp-low _ _ _ t)
+    to_z-of_z s.ranges.lo ∙ sym (clamp_low _ _ _ t)
 
 -- the first test failed
 above : (c : tie.Else1) → lt_z c.before.before.args.x c.before.before.args.lo ≡ false
@@ -23,7 +23,7 @@ returns-2 : tie.Need-returns-2
 returns-2 c =
     let s = c.before.before.before.before in
     let t : lt_z s.args.hi s.args.x ≡ true = cc (to_z-of_z s.ranges.x, to_z-of_z s.ranges.hi, got32 c.before.wide2) in
-    to_z-of_z s.ranges.hi ∙ sym (clamp-high _ _ _ (above c.before.before) t)
+    to_z-of_z s.ranges.hi ∙ sym (clamp_high _ _ _ (above c.before.before) t)
 
 -- the second test failed
 below : (c : tie.Else2) → lt_z c.before.before.before.before.args.hi c.before.before.before.before.args.x ≡ false
@@ -32,12 +32,12 @@ below c = let s = c.before.before.before.before in cc (to_z-of_z s.ranges.x, to_
 cast-result : tie.Need-overflow-cast-result
 cast-result c =
     let s = c.before.before.before.before in
-    rw (to_z-of_z s.ranges.x) (fits-between s.ranges.lo s.ranges.hi (above c.before.before) (below c))
+    rw (to_z-of_z s.ranges.x) (fits_between s.ranges.lo s.ranges.hi (above c.before.before) (below c))
 
 returns-3 : tie.Need-returns-3
 returns-3 c =
     let s = c.before.before.before.before in
-    to_z-of_z (cast-result c) ∙ (to_z-of_z s.ranges.x ∙ sym (clamp-mid _ _ _ (above c.before.before) (below c)))
+    to_z-of_z (cast-result c) ∙ (to_z-of_z s.ranges.x ∙ sym (clamp_mid _ _ _ (above c.before.before) (below c)))
 
 pub clamp_spec : {M : Type 1} → statement M
 clamp_spec = tie.close (tie.spec (λ c κs. tt) returns (λ c κs. tt) returns-2 cast-result returns-3)

@@ -8,18 +8,18 @@ use mir.Val.{SFits, to_z, of_z}
 use mir.Facts.{to_z-of_z}
 use borrow.Author.Tests.{eq-eqb, eqb-true}
 use Rattle.laws.specs.Back.{got16}
-use Rattle.laws.specs.Order.{by-test, no}
+use Rattle.laws.specs.Order.{by_test, no}
 use Rattle.g722.specs.Arithmetic.{equal, limit, limited}
-use Rattle.g722.specs.Within.{equal-refl, equal-same}
+use Rattle.g722.specs.Within.{equal_refl, equal_same}
 use Rattle.arith.proofs.limit.Statement.{statement}
 use Rattle.arith.proofs.limit.Tie as tie
 
 one_word : {a b : ℤ} → SFits w32 a → SFits w32 b → eqb (of_z w32 a) (of_z w32 b) ≡ equal a b
 one_word {a} {b} f g =
-    by-test (eqb (of_z w32 a) (of_z w32 b))
-    (λ e. let s : a ≡ b = sym (to_z-of_z f) ∙ ap (to_z w32) (eqb-true (of_z w32 a) (of_z w32 b) e) ∙ to_z-of_z g in e ∙ sym (rw s (equal-refl b)))
-    (λ e. by-test (equal a b)
-    (λ t. no (sym (eq-eqb _ _ (ap (of_z w32) (equal-same a b t))) ∙ e))
+    by_test (eqb (of_z w32 a) (of_z w32 b))
+    (λ e. let s : a ≡ b = sym (to_z-of_z f) ∙ ap (to_z w32) (eqb-true (of_z w32 a) (of_z w32 b) e) ∙ to_z-of_z g in e ∙ sym (rw s (equal_refl b)))
+    (λ e. by_test (equal a b)
+    (λ t. no (sym (eq-eqb _ _ (ap (of_z w32) (equal_same a b t))) ∙ e))
     (λ t. e ∙ sym t))
 
 returns : tie.Need-returns

@@ -2,7 +2,7 @@
 use mir.Facts.{to_z-of_z}
 use Rattle.g722.specs.Arithmetic.{mul}
 use Rattle.laws.specs.Back.{got16, got32, widened}
-use Rattle.laws.specs.Size.{product-fits, shr-fits}
+use Rattle.laws.specs.Size.{product_fits, shr_fits}
 use Rattle.arith.proofs.mul.Statement.{statement}
 use Rattle.arith.proofs.mul.Tie as tie
 
@@ -10,7 +10,7 @@ mul-clamp : tie.Need-overflow-mul-clamp
 mul-clamp c =
     let s = c.before.before in
     rw (widened c.before.wide.type-inv c.before.wide.ensures s.ranges.a, widened c.wide2.type-inv c.wide2.ensures s.ranges.b)
-    (product-fits s.ranges.a s.ranges.b)
+    (product_fits s.ranges.a s.ranges.b)
 
 returns : tie.Need-returns
 unfolding mul
@@ -19,7 +19,7 @@ returns c =
     let m = mul-clamp c.before in
     cc (
       got16 c.clamp,
-      to_z-of_z (shr-fits 32768 m),
+      to_z-of_z (shr_fits 32768 m),
       to_z-of_z m,
       got32 c.before.wide2,
       got32 c.before.before.wide,

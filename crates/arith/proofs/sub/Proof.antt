@@ -2,7 +2,7 @@
 use mir.Facts.{to_z-of_z}
 use Rattle.g722.specs.Arithmetic.{sub}
 use Rattle.laws.specs.Back.{got16, got32, widened}
-use Rattle.laws.specs.Size.{difference-fits}
+use Rattle.laws.specs.Size.{difference_fits}
 use Rattle.arith.proofs.sub.Statement.{statement}
 use Rattle.arith.proofs.sub.Tie as tie
 
@@ -10,7 +10,7 @@ sub-clamp : tie.Need-overflow-sub-clamp
 sub-clamp c =
     let s = c.before.before in
     rw (widened c.before.wide.type-inv c.before.wide.ensures s.ranges.a, widened c.wide2.type-inv c.wide2.ensures s.ranges.b)
-    (difference-fits s.ranges.a s.ranges.b)
+    (difference_fits s.ranges.a s.ranges.b)
 
 returns : tie.Need-returns
 unfolding sub

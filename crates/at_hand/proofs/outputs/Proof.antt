@@ -2,25 +2,25 @@
 use mathlib.Core.Path.{refl}
 use borrow.Author.Tests.{ne_eqb}
 use Rattle.g722.specs.Tables.{qq6, qq5, qq4, qq2}
-use Rattle.g722.specs.Words.{fromSix, fromFive, fromFour, fromTwo}
-use Rattle.at_hand.specs.Signed.{signed_of, outputAt, outputsOf}
+use Rattle.g722.specs.Words.{from_six, from_five, from_four, from_two}
+use Rattle.at_hand.specs.Signed.{signed_of, output_at, outputs_of}
 use Rattle.at_hand.proofs.outputs.Statement.{statement}
 use Rattle.at_hand.proofs.outputs.Tie as tie
 
 returns : tie.Need-returns
-unfolding outputsOf outputAt signed_of fromTwo qq2
+unfolding outputs_of output_at signed_of from_two qq2
 returns c = rw c.if1.true refl
 
 returns-2 : tie.Need-returns-2
-unfolding outputsOf outputAt signed_of fromSix qq6
+unfolding outputs_of output_at signed_of from_six qq6
 returns-2 c = rw (c.before.if1.false, c.if2.true) refl
 
 returns-3 : tie.Need-returns-3
-unfolding outputsOf outputAt signed_of fromFive qq5
+unfolding outputs_of output_at signed_of from_five qq5
 returns-3 c = rw (c.before.before.if1.false, c.if3.true) refl
 
 returns-4 : tie.Need-returns-4
-unfolding outputsOf outputAt signed_of fromFour qq4
+unfolding outputs_of output_at signed_of from_four qq4
 returns-4 c =
     let mode = c.before.before.before.args.mode in
     rw (c.before.before.if1.false, ne_eqb mode 1 c.before.if2.false, ne_eqb mode 2 c.if3.false) refl

@@ -12,7 +12,7 @@ use mir.Facts.{to_z-of_z}
 use Rattle.laws.specs.Back.{back16, got16}
 use Rattle.laws.specs.Filled.{Filled, fill, filled}
 use Rattle.g722.specs.Band.{upzero}
-use Rattle.laws.specs.Zipped.{zip_length, zip-at}
+use Rattle.laws.specs.Zipped.{zip_length, zip_at}
 use Rattle.band.proofs.coefficients.Statement.{statement}
 use Rattle.band.proofs.coefficients.Tie as tie
 
@@ -34,7 +34,7 @@ loop-again c =
     let b6 : length z.b ≡ 6 = search rules in
     let d6 : length z.d ≡ 6 = search rules in
     let e : to_z w16 (of_z w16 c.upzero.result) ≡ get_or (zip_with f z.b z.d) k (pos 0) =
-    rw (got16 c.upzero ∙ c.upzero.ensures, zip-at f z.b z.d k (omega arith) (omega arith))
+    rw (got16 c.upzero ∙ c.upzero.ensures, zip_at f z.b z.d k (omega arith) (omega arith))
     (simp (back16 (get_or z.b k (pos 0)) c₂.upzero-arg.given, back16 (get_or z.d k (pos 0)) c₁.upzero-arg2.given))
     in
     let long = zip_length f z.b z.d (omega arith) in

@@ -11,7 +11,7 @@ use mir.Val.{to_z, of_z}
 use Rattle.laws.specs.Back.{got16, back16}
 use Rattle.g722.specs.Arithmetic.{add}
 use Rattle.g722.specs.Band.{filtez, term, sums}
-use Rattle.laws.specs.Zipped.{zip-at, zip_length}
+use Rattle.laws.specs.Zipped.{zip_at, zip_length}
 use Rattle.facts.specs.Chain.{added, summed}
 use Rattle.band.proofs.filtez.Statement.{statement}
 use Rattle.band.proofs.filtez.Tie as tie
@@ -36,7 +36,7 @@ loop-again c =
     let b6 : length z.b ≡ 6 = search rules in
     let d6 : length z.d ≡ 6 = search rules in
     let e : to_z w16 (of_z w16 c.add.result) ≡ add (to_z w16 l.loop.sum) (get_or (zip_with term z.b z.d) i (pos 0)) =
-    rw (got16 c.add ∙ c.add.ensures, got16 c₁.term ∙ c₁.term.ensures, zip-at term z.b z.d i (omega arith) (omega arith))
+    rw (got16 c.add ∙ c.add.ensures, got16 c₁.term ∙ c₁.term.ensures, zip_at term z.b z.d i (omega arith) (omega arith))
     (simp (back16 (get_or z.b i (pos 0)) c₃.term-arg.given, back16 (get_or z.d i (pos 0)) c₂.term-arg2.given))
     in
     let long = zip_length term z.b z.d (omega arith) in

@@ -1,13 +1,13 @@
 -- `band::next_poles` meets its contract, by those of its calls.
 use mathlib.Core.Path.{◌∙◌}
 use mir.Facts.{to_z-of_z}
-use Rattle.g722.specs.Band.{nextPoles}
+use Rattle.g722.specs.Band.{next_poles}
 use Rattle.laws.specs.Back.{back16, got16}
 use Rattle.band.proofs.next_poles.Statement.{statement}
 use Rattle.band.proofs.next_poles.Tie as tie
 
 returns : tie.Need-returns
-unfolding nextPoles
+unfolding next_poles
 returns c =
     let c1 = c.before in
     let c2 = c1.before in

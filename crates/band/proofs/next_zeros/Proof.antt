@@ -1,11 +1,11 @@
 -- `band::next_zeros` meets its contract, by those of its calls.
 use mir.Facts.{to_z-of_z}
-use Rattle.g722.specs.Band.{nextZeros}
+use Rattle.g722.specs.Band.{next_zeros}
 use Rattle.band.proofs.next_zeros.Statement.{statement}
 use Rattle.band.proofs.next_zeros.Tie as tie
 
 returns : tie.Need-returns
-unfolding nextZeros
+unfolding next_zeros
 returns c =
     let s = c.before.before.before in
     rw (c.slide.ensures, c.before.coefficients.ensures)

@@ -4,7 +4,7 @@ use mir.Syntax.{w16}
 use mir.Facts.{to_z-of_z}
 use Rattle.g722.specs.Band.{turned}
 use Rattle.laws.specs.Back.{back16, got16}
-use Rattle.laws.specs.Size.{shr-fits}
+use Rattle.laws.specs.Size.{shr_fits}
 use Rattle.band.proofs.turned.Statement.{statement}
 use Rattle.band.proofs.turned.Tie as tie
 
@@ -19,7 +19,7 @@ returns c =
     let s = c5.before in
     rw (
       got16 c.pick,
-      to_z-of_z {w = w16} (shr-fits {z = c.pick.result} 128 (record { sfits = c.pick.type-inv })),
+      to_z-of_z {w = w16} (shr_fits {z = c.pick.result} 128 (record { sfits = c.pick.type-inv })),
       c.pick.ensures,
       got16 c1.sub ∙ c1.sub.ensures,
       c2.same_sign.ensures,

@@ -10,17 +10,17 @@ use lib.ListN.{length, drop, get_or, drop_of_length-le}
 use lib.Seq.{drop-cons}
 use borrow.Author.Rules.{rules}
 use borrow.Author.Tests.{eq-eqb, ne_eqb}
-use Rattle.block.specs.Calls.{allZero}
+use Rattle.block.specs.Calls.{all_zero}
 use Rattle.block.proofs.all_zero.Statement.{statement}
 use Rattle.block.proofs.all_zero.Tie as tie
 
 -- one byte more
-more : (s : List ℕ) (i : ℕ) → i < length s → allZero (drop i s) ≡ (eqb (get_or s i 0) 0 && allZero (drop (i + 1) s))
-unfolding allZero
+more : (s : List ℕ) (i : ℕ) → i < length s → all_zero (drop i s) ≡ (eqb (get_or s i 0) 0 && all_zero (drop (i + 1) s))
+unfolding all_zero
 more s i h = rw (add-one, drop-cons s i 0 h)
 
 abbrev invariant-loop : tie.invariant-loop
-invariant-loop bytes i₀ i = (i ≤ length bytes) × (allZero bytes ≡ allZero (drop i bytes))
+invariant-loop bytes i₀ i = (i ≤ length bytes) × (all_zero bytes ≡ all_zero (drop i bytes))
 
 abbrev decreases-loop : tie.decreases-loop
 decreases-loop bytes i₀ i = length bytes - i
@@ -36,7 +36,7 @@ loop-again c =
     (omega arith, l.invariant.1 ∙ more _ l.i (omega arith) ∙ rw (eq-eqb _ _ c.if1.false))
 
 returns-2 : tie.Need-returns-2 invariant-loop decreases-loop
-unfolding allZero
+unfolding all_zero
 returns-2 c =
     let h : length c.before.before.args.bytes.now ≤ c.before.loop.i = omega arith in
     sym (rw (drop_of_length-le _ h) at c.before.loop.invariant.1)

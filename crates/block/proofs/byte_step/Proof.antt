@@ -4,7 +4,7 @@ use Prim.Native.Nat.{◌*◌, ◌/◌, ◌<◌}
 use native.Mathlib.Omega.{arith}
 use lib.Bits.{bit_xor, xor_lt}
 use borrow.Author.Rules.{rules}
-use Rattle.block.specs.Check.{byteStep}
+use Rattle.block.specs.Check.{byte_step}
 use Rattle.block.specs.Steps.{at_once}
 use Rattle.block.proofs.byte_step.Statement.{statement}
 use Rattle.block.proofs.byte_step.Tie as tie
@@ -19,7 +19,7 @@ mul-result-2 c =
     omega (arith, xor_lt 8 high (high / 16) (omega arith) (omega arith))
 
 returns : tie.Need-returns
-unfolding byteStep
+unfolding byte_step
 returns c = sym (at_once _ (met-below c))
 
 pub byte-step-spec : {M : Type 1} → statement M

@@ -7,18 +7,18 @@ use native.Mathlib.Omega.{arith}
 use lib.ListN.{length, drop, get_or, drop_of_length-le}
 use lib.Seq.{drop-cons}
 use borrow.Author.Rules.{rules}
-use Rattle.block.specs.Check.{check, checkFrom, byteStep}
+use Rattle.block.specs.Check.{check, check_from, byte_step}
 use Rattle.block.proofs.check.Statement.{statement}
 use Rattle.block.proofs.check.Tie as tie
 
 -- one byte more
-more : (s : List ℕ) (reg next i : ℕ) → i < length s → next ≡ byteStep reg (get_or s i 0)
-    → checkFrom next (drop (i + 1) s) ≡ checkFrom reg (drop i s)
-unfolding checkFrom
+more : (s : List ℕ) (reg next i : ℕ) → i < length s → next ≡ byte_step reg (get_or s i 0)
+    → check_from next (drop (i + 1) s) ≡ check_from reg (drop i s)
+unfolding check_from
 more s reg next i h e = rw (add-one, drop-cons s i 0 h, e)
 
 abbrev invariant-loop : tie.invariant-loop
-invariant-loop bytes reg₀ i₀ reg i = (i ≤ length bytes) × (checkFrom reg (drop i bytes) ≡ check bytes)
+invariant-loop bytes reg₀ i₀ reg i = (i ≤ length bytes) × (check_from reg (drop i bytes) ≡ check bytes)
 
 abbrev decreases-loop : tie.decreases-loop
 decreases-loop bytes reg₀ i₀ reg i = length bytes - i
@@ -33,7 +33,7 @@ loop-again c =
     (omega arith, more _ l.reg _ l.i (omega arith) c.byte_step.ensures ∙ l.invariant.1)
 
 returns : tie.Need-returns invariant-loop decreases-loop
-unfolding checkFrom
+unfolding check_from
 returns c =
     let l = c.before.loop in
     let h : length c.before.before.before.args.bytes.now ≤ l.i = omega arith in

@@ -6,7 +6,7 @@ use lib.ListN.{length, take, drop, length-set}
 use lib.Seq.{take_at}
 use borrow.Author.Rules.{rules}
 use Rattle.block.specs.Layout.{body, block_of}
-use Rattle.laws.specs.Parts.{last-two}
+use Rattle.laws.specs.Parts.{last_two}
 use Rattle.block.proofs.put.Statement.{statement}
 use Rattle.block.proofs.put.Tie as tie
 
@@ -21,7 +21,7 @@ returns c =
     let l = bs ++ drop 510 a.out.now in
     let n : length bs ≡ 510 = omega arith in
     let e : take 510 l ≡ b = rw (take_at bs (drop 510 a.out.now) 510 n) p.put-body.ensures in
-    last-two 510 l b _ _ (omega arith) e ∙ rw (c.before.byte.ensures, c.byte2.ensures, k.check.ensures, e)
+    last_two 510 l b _ _ (omega arith) e ∙ rw (c.before.byte.ensures, c.byte2.ensures, k.check.ensures, e)
 
 pub put_spec : {M : Type 1} → statement M
 put_spec =

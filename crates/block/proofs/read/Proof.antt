@@ -7,20 +7,20 @@ use borrow.Author.Rules.{rules}
 use borrow.Author.Tests.{eqb-true, eqb-false, not-true, not-false}
 use Rattle.laws.specs.Order.{no}
 use Rattle.block.specs.Check.{check}
-use Rattle.big_endian.specs.Numbers.{twoAt}
-use Rattle.block.specs.Calls.{wellFormed}
-use Rattle.block.specs.Formed.{formed-bytes, formed-within}
-use Rattle.block.specs.Numbers.{read-6, read-7, read-8, read_done}
+use Rattle.big_endian.specs.Numbers.{two_at}
+use Rattle.block.specs.Calls.{well_formed}
+use Rattle.block.specs.Formed.{formed_bytes, formed_within}
+use Rattle.block.specs.Numbers.{read_6, read_7, read_8, read_done}
 use Rattle.block.proofs.read.Statement.{statement}
 use Rattle.block.proofs.read.Tie as tie
 
 returns : tie.Need-returns
-returns c = c.refused.ensures ∙ sym (read-6 _ c.before.if1.true)
+returns c = c.refused.ensures ∙ sym (read_6 _ c.before.if1.true)
 
 -- the code's test of the check is the definition's
 tested : (c : tie.After-well-formed)
     → let b = c.before.before.before.before.before.before.args.b.now in
-    eqb c.before.before.check.result c.before.two_at.result ≡ eqb (check (take 510 b)) (twoAt b 510)
+    eqb c.before.before.check.result c.before.two_at.result ≡ eqb (check (take 510 b)) (two_at b 510)
 tested c = ap₂ eqb c.before.before.check.ensures c.before.two_at.ensures
 
 returns-2 : tie.Need-returns-2
@@ -28,29 +28,29 @@ returns-2 c =
     let w = c.before.before in
     let l = w.before.before.before.before in
     let b = l.before.before.args.b.now in
-    let wrong : eqb (check (take 510 b)) (twoAt b 510) ≡ false = sym (tested w) ∙ not-true _ c.before.if2.true in
-    c.refused2.ensures ∙ sym (read-7 _ l.if1.false (eqb-false _ _ wrong))
+    let wrong : eqb (check (take 510 b)) (two_at b 510) ≡ false = sym (tested w) ∙ not-true _ c.before.if2.true in
+    c.refused2.ensures ∙ sym (read_7 _ l.if1.false (eqb-false _ _ wrong))
 
 -- the check is right
 right : (c : tie.Else2) → let b = c.before.before.before.before.before.before.before.args.b.now in
-    check (take 510 b) ≡ twoAt b 510
+    check (take 510 b) ≡ two_at b 510
 right c = eqb-true _ _ (sym (tested c.before) ∙ not-false _ c.if2.false)
 
 returns-3 : tie.Need-returns-3
 returns-3 c =
     let d = c.before.before in
     let l = d.before.before.before.before.before in
-    let f : wellFormed l.before.before.args.b.now ≡ false = sym d.before.well-formed-2.ensures
+    let f : well_formed l.before.before.args.b.now ≡ false = sym d.before.well-formed-2.ensures
     ∙ not-true _ c.before.if3.true in
-    c.refused3.ensures ∙ sym (read-8 _ l.if1.false (right d) (λ h. no (sym (formed-within _ l.if1.false h) ∙ f)))
+    c.refused3.ensures ∙ sym (read_8 _ l.if1.false (right d) (λ h. no (sym (formed_within _ l.if1.false h) ∙ f)))
 
 returns-4 : tie.Need-returns-4
 returns-4 c =
     let e = c.before.before.before.before in
     let d = e.before in
     let l = d.before.before.before.before.before in
-    let f : wellFormed l.before.before.args.b.now ≡ true = sym d.before.well-formed-2.ensures ∙ not-false _ e.if3.false in
-    rw (read_done _ l.if1.false (right d) (formed-bytes _ l.if1.false f)) (cc)
+    let f : well_formed l.before.before.args.b.now ≡ true = sym d.before.well-formed-2.ensures ∙ not-false _ e.if3.false in
+    rw (read_done _ l.if1.false (right d) (formed_bytes _ l.if1.false f)) (cc)
 
 pub read_spec : {M : Type 1} → statement M
 read_spec =

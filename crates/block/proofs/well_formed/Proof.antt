@@ -6,13 +6,13 @@ use lib.Dec.{eqb}
 use lib.ListN.{get_or}
 use borrow.Author.Rules.{rules}
 use borrow.Author.Tests.{eq-eqb, ne_eqb, not-true, not-false}
-use Rattle.block.specs.Calls.{allowed, wellFormed}
-use Rattle.block.specs.Formed.{allowed-bounds}
+use Rattle.block.specs.Calls.{allowed, well_formed}
+use Rattle.block.specs.Formed.{allowed_bounds}
 use Rattle.block.proofs.well_formed.Statement.{statement}
 use Rattle.block.proofs.well_formed.Tie as tie
 
 returns : tie.Need-returns
-unfolding wellFormed
+unfolding well_formed
 returns c =
     let d = c.before in
     rw (← d.before.before.two_at.ensures, sym d.allowed.ensures ∙ not-true _ c.if1.true)
@@ -23,7 +23,7 @@ within : (c : tie.Else1) → let t = c.before.before.before in
 within c = sym c.before.allowed.ensures ∙ not-false _ c.if1.false
 
 returns-2 : tie.Need-returns-2
-unfolding wellFormed
+unfolding well_formed
 returns-2 c =
     let d = c.before.before in
     let b = d.before.before.before.before.before.args.b.now in
@@ -32,10 +32,10 @@ returns-2 c =
 
 -- so the octets end before the check
 sub-all-zero : tie.Need-overflow-sub-all-zero
-sub-all-zero c = omega (arith, (allowed-bounds _ _ (within c.before.before)).count_most)
+sub-all-zero c = omega (arith, (allowed_bounds _ _ (within c.before.before)).count_most)
 
 returns-3 : tie.Need-returns-3
-unfolding wellFormed
+unfolding well_formed
 returns-3 c =
     let e = c.before.before in
     let d = e.before.before in

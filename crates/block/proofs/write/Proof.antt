@@ -8,8 +8,8 @@ use borrow.Author.Tests.{eqb-true, eqb-false, not-true, not-false}
 use Rattle.laws.specs.Order.{no}
 use Rattle.laws.specs.Outcome.{does}
 use Rattle.block.specs.Calls.{allowed}
-use Rattle.block.specs.Formed.{Allowed, allowed-bounds, allowed-within}
-use Rattle.block.specs.Numbers.{write-6, write-8, write_done}
+use Rattle.block.specs.Formed.{Allowed, allowed_bounds, allowed_within}
+use Rattle.block.specs.Numbers.{write_6, write_8, write_done}
 use Rattle.block.proofs.write.Statement.{statement}
 use Rattle.block.proofs.write.Tie as tie
 
@@ -17,7 +17,7 @@ returns : tie.Need-returns
 returns c =
     let t = c.before in
     let e : eqb (length t.before.before.before.before.args.out.now) 512 ≡ false = not-true _ t.if1.true in
-    does (write-6 _ _ _ _ _ (eqb-false _ 512 e)) c.numbered.ensures refl
+    does (write_6 _ _ _ _ _ (eqb-false _ 512 e)) c.numbered.ensures refl
 
 -- the lent memory is a whole block
 whole : (c : tie.Else1) → length c.before.before.before.before.args.out.now ≡ 512
@@ -28,11 +28,11 @@ returns-2 c =
     let t = c.before in
     let a = t.before.before.before.before.before.args in
     let f : allowed a.mode (length a.octets.now) ≡ false = sym t.before.before.allowed.ensures ∙ not-true _ t.if2.true in
-    does (write-8 _ _ _ _ _ (whole t.before) (λ h. no (sym (allowed-within _ _ h) ∙ f))) c.numbered2.ensures refl
+    does (write_8 _ _ _ _ _ (whole t.before) (λ h. no (sym (allowed_within _ _ h) ∙ f))) c.numbered2.ensures refl
 
 -- the mode and the count are allowed
 within : (c : tie.Else2) → let a = c.before.before.before.before.before.args in Allowed a.mode (length a.octets.now)
-within c = allowed-bounds _ _ (sym c.before.before.allowed.ensures ∙ not-false _ c.if2.false)
+within c = allowed_bounds _ _ (sym c.before.before.allowed.ensures ∙ not-false _ c.if2.false)
 
 put-requires : tie.Need-put-requires
 put-requires c κs = let d = c.before in (whole d.before, (within d).count_most)

@@ -7,25 +7,25 @@ use mathlib.Core.List.{List}
 use lib.IntN.{ℤ, pos}
 use lib.ListN.{length, drop, get_or, drop_of_length-le}
 use Rattle.laws.specs.Back.{back16}
-use Rattle.laws.specs.Turns.{drop-one}
-use Rattle.g722.specs.Records.{in_range, allInRange}
+use Rattle.laws.specs.Turns.{drop_one}
+use Rattle.g722.specs.Records.{in_range, all_in_range}
 use Rattle.bounds.proofs.all_in_range.Statement.{statement}
 use Rattle.bounds.proofs.all_in_range.Tie as tie
 
 abbrev invariant-loop : tie.invariant-loop
-invariant-loop xs ok₀ i₀ i-end ok i = (i ≤ i-end) × (i-end ≡ length xs) × ((ok && allInRange (drop i xs)) ≡ allInRange xs)
+invariant-loop xs ok₀ i₀ i-end ok i = (i ≤ i-end) × (i-end ≡ length xs) × ((ok && all_in_range (drop i xs)) ≡ all_in_range xs)
 
 abbrev decreases-loop : tie.decreases-loop
 decreases-loop xs ok₀ i₀ i-end ok i = i-end - i
 
 -- one sample moves from the rest to what was found
 turn : (xs : List ℤ) (i : ℕ) (ok : Bool) → i < length xs
-    → ((ok && in_range (get_or xs i (pos 0))) && allInRange (drop (i + 1) xs)) ≡ (ok && allInRange (drop i xs))
-unfolding allInRange
-turn xs i ok h = and_assoc ok _ _ ∙ ap (λ (l : List ℤ). ok && allInRange l) (sym (drop-one xs i (pos 0) h))
+    → ((ok && in_range (get_or xs i (pos 0))) && all_in_range (drop (i + 1) xs)) ≡ (ok && all_in_range (drop i xs))
+unfolding all_in_range
+turn xs i ok h = and_assoc ok _ _ ∙ ap (λ (l : List ℤ). ok && all_in_range l) (sym (drop_one xs i (pos 0) h))
 
-end : (xs : List ℤ) (i : ℕ) (ok : Bool) → length xs ≤ i → ok ≡ (ok && allInRange (drop i xs))
-unfolding allInRange
+end : (xs : List ℤ) (i : ℕ) (ok : Bool) → length xs ≤ i → ok ≡ (ok && all_in_range (drop i xs))
+unfolding all_in_range
 end xs i ok h = rw (drop_of_length-le xs h) (sym (and-true ok))
 
 loop-holds : tie.Need-loop-init invariant-loop decreases-loop
@@ -42,7 +42,7 @@ loop-again c =
     c.before.in-range.ensures ∙ ap in_range (back16 (get_or xs i (pos 0)) c.before.before.in-range-arg.given) in (
       omega arith,
       l.loop.invariant.1,
-      ap (λ (t : Bool). t && allInRange (drop (i + 1) xs)) (c.both.ensures ∙ ap (λ (t : Bool). ok && t) r)
+      ap (λ (t : Bool). t && all_in_range (drop (i + 1) xs)) (c.both.ensures ∙ ap (λ (t : Bool). ok && t) r)
           ∙ turn xs i ok h
           ∙ l.loop.invariant.2,
     )

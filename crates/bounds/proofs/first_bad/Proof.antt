@@ -8,35 +8,35 @@ use borrow.Author.Tests.{not-true, not-false}
 use lib.IntN.{ℤ, pos}
 use lib.ListN.{length, drop, get_or, drop_of_length-le}
 use Rattle.laws.specs.Back.{back16}
-use Rattle.laws.specs.Turns.{drop-one}
+use Rattle.laws.specs.Turns.{drop_one}
 use Rattle.g722.specs.Records.{in_range}
-use Rattle.g722.specs.Coding.{firstBad}
+use Rattle.g722.specs.Coding.{first_bad}
 use Rattle.bounds.proofs.first_bad.Statement.{statement}
 use Rattle.bounds.proofs.first_bad.Tie as tie
 
 -- the place of the first bad one of the rest, from one place to the next
 
 module _ (s : List ℤ) (i : ℕ) (h : i < length s) where
-  bad-here : firstBad (drop i s) ≡ cond (in_range (get_or s i (pos 0))) (suc (firstBad (drop (i + 1) s))) zero
-  unfolding firstBad
-  bad-here = ap firstBad (drop-one s i (pos 0) h)
+  bad-here : first_bad (drop i s) ≡ cond (in_range (get_or s i (pos 0))) (suc (first_bad (drop (i + 1) s))) zero
+  unfolding first_bad
+  bad-here = ap first_bad (drop_one s i (pos 0) h)
 
-  bad-on : in_range (get_or s i (pos 0)) ≡ true → (i + 1) + firstBad (drop (i + 1) s) ≡ i + firstBad (drop i s)
+  bad-on : in_range (get_or s i (pos 0)) ≡ true → (i + 1) + first_bad (drop (i + 1) s) ≡ i + first_bad (drop i s)
   bad-on e =
-      let k : firstBad (drop i s) ≡ suc (firstBad (drop (i + 1) s)) = bad-here ∙ rw e in
+      let k : first_bad (drop i s) ≡ suc (first_bad (drop (i + 1) s)) = bad-here ∙ rw e in
       omega arith
 
-  bad-stop : in_range (get_or s i (pos 0)) ≡ false → i ≡ i + firstBad (drop i s)
+  bad-stop : in_range (get_or s i (pos 0)) ≡ false → i ≡ i + first_bad (drop i s)
   bad-stop e =
-      let k : firstBad (drop i s) ≡ zero = bad-here ∙ rw e in
+      let k : first_bad (drop i s) ≡ zero = bad-here ∙ rw e in
       omega arith
 
-bad-end : (s : List ℤ) (i : ℕ) → length s ≤ i → firstBad (drop i s) ≡ zero
-unfolding firstBad
-bad-end s i k = ap firstBad (drop_of_length-le s k)
+bad-end : (s : List ℤ) (i : ℕ) → length s ≤ i → first_bad (drop i s) ≡ zero
+unfolding first_bad
+bad-end s i k = ap first_bad (drop_of_length-le s k)
 
 abbrev invariant-loop : tie.invariant-loop
-invariant-loop s i₀ i-end i = (i ≤ i-end) × (i-end ≡ length s) × (i + firstBad (drop i s) ≡ firstBad s)
+invariant-loop s i₀ i-end i = (i ≤ i-end) × (i-end ≡ length s) × (i + first_bad (drop i s) ≡ first_bad s)
 
 abbrev decreases-loop : tie.decreases-loop
 decreases-loop s i₀ i-end i = i-end - i

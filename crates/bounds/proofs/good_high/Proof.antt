@@ -1,11 +1,11 @@
 -- `bounds::good_high` meets its contract, by those of its calls.
 use Rattle.laws.specs.Back.{back16, got16}
-use Rattle.g722.specs.Records.{goodHigh, goodFactors}
+use Rattle.g722.specs.Records.{good_high, good_factors}
 use Rattle.bounds.proofs.good_high.Statement.{statement}
 use Rattle.bounds.proofs.good_high.Tie as tie
 
 returns : tie.Need-returns
-unfolding goodHigh goodFactors
+unfolding good_high good_factors
 returns c =
     let told = c.before.before.before in
     let s = told.before.before.before.before.before.before.before.before in

@@ -1,11 +1,11 @@
 -- `bounds::good_low` meets its contract, by those of its calls.
 use Rattle.laws.specs.Back.{back16, got16}
-use Rattle.g722.specs.Records.{goodLow, goodFactors}
+use Rattle.g722.specs.Records.{good_low, good_factors}
 use Rattle.bounds.proofs.good_low.Statement.{statement}
 use Rattle.bounds.proofs.good_low.Tie as tie
 
 returns : tie.Need-returns
-unfolding goodLow goodFactors
+unfolding good_low good_factors
 returns c =
     let told = c.before.before.before in
     let s = told.before.before.before.before.before.before.before.before in

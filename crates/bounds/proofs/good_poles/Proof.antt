@@ -4,23 +4,23 @@ use mathlib.Core.Bool.{◌&&◌}
 use lib.IntN.{pos}
 use Rattle.laws.specs.Back.{back16, got16}
 use Rattle.g722.specs.Arithmetic.{neg, sub, within}
-use Rattle.g722.specs.Within.{within-ends}
-use Rattle.laws.specs.Order.{by-test}
+use Rattle.g722.specs.Within.{within_ends}
+use Rattle.laws.specs.Order.{by_test}
 use Rattle.g722.specs.Band.{reach}
-use Rattle.facts.specs.Reach.{reach-exact, reach-negated}
-use Rattle.g722.specs.Records.{goodPoles}
+use Rattle.facts.specs.Reach.{reach_exact, reach_negated}
+use Rattle.g722.specs.Records.{good_poles}
 use Rattle.g722.specs.declared.Poles.{Poles}
 use Rattle.bounds.proofs.good_poles.Statement.{statement}
 use Rattle.bounds.proofs.good_poles.Tie as tie
 
 -- where the second coefficient is within its bound the code meets no stop; where it is not, the rest does not matter
-exact : (s : Poles) → (within (neg 12288) (pos 12288) s.a2 && within (sub (pos 0) (reach s.a2)) (reach s.a2) s.a1) ≡ goodPoles s
-unfolding goodPoles
+exact : (s : Poles) → (within (neg 12288) (pos 12288) s.a2 && within (sub (pos 0) (reach s.a2)) (reach s.a2) s.a1) ≡ good_poles s
+unfolding good_poles
 exact s =
-    by-test (within (neg 12288) (pos 12288) s.a2)
+    by_test (within (neg 12288) (pos 12288) s.a2)
     (λ e.
-    let b = within-ends (neg 12288) (pos 12288) s.a2 e in
-    rw (reach-exact s.a2 b.0 b.1, reach-negated s.a2 b.0 b.1))
+    let b = within_ends (neg 12288) (pos 12288) s.a2 e in
+    rw (reach_exact s.a2 b.0 b.1, reach_negated s.a2 b.0 b.1))
     (λ e. rw e)
 
 returns : tie.Need-returns

@@ -7,18 +7,18 @@ use borrow.Author.Tests.{not-true, not-false}
 use lib.ListN.{length}
 use Rattle.laws.specs.Outcome.{does}
 use Rattle.facts.specs.Lengths.{twice, few}
-use Rattle.facts.specs.Range.{none-bad, some-bad}
-use Rattle.g722.specs.Records.{goodCoder}
-use Rattle.g722.specs.Coding.{misfit, notCoded}
-use Rattle.coder.proofs.Laws.{call-misfit, call-broken, call-bad, call-done}
+use Rattle.facts.specs.Range.{none_bad, some_bad}
+use Rattle.g722.specs.Records.{good_coder}
+use Rattle.g722.specs.Coding.{misfit, not_coded}
+use Rattle.coder.proofs.Laws.{call_misfit, call_broken, call_bad, call_done}
 use Rattle.coder.proofs.code.Statement.{statement}
 use Rattle.coder.proofs.code.Tie as tie
 
 returns : tie.Need-returns
-unfolding notCoded
+unfolding not_coded
 returns c =
     let t = c.before in
-    does (call-misfit _ _ _ (sym t.before.before.misfit.ensures ∙ t.if1.true)) c.refused.ensures refl
+    does (call_misfit _ _ _ (sym t.before.before.misfit.ensures ∙ t.if1.true)) c.refused.ensures refl
 
 -- past the first test
 fits : (e : tie.Else1)
@@ -26,25 +26,25 @@ fits : (e : tie.Else1)
 fits e = sym e.before.before.misfit.ensures ∙ e.if1.false
 
 returns-2 : tie.Need-returns-2
-unfolding notCoded
+unfolding not_coded
 returns-2 c =
     let t = c.before in
-    does (call-broken _ _ _ (fits t.before) (sym t.before.before.good-coder.ensures ∙ not-true _ t.if2.true))
+    does (call_broken _ _ _ (fits t.before) (sym t.before.before.good-coder.ensures ∙ not-true _ t.if2.true))
     c.refused2.ensures refl
 
 -- past the second
-from-good : (e : tie.Else2) → goodCoder e.before.before.before.before.before.args.c ≡ true
+from-good : (e : tie.Else2) → good_coder e.before.before.before.before.before.args.c ≡ true
 from-good e = sym e.before.before.good-coder.ensures ∙ not-false _ e.if2.false
 
 returns-3 : tie.Need-returns-3
-unfolding notCoded
+unfolding not_coded
 returns-3 c =
     let b = c.before in
     let t = b.before in
     let g = t.before.before in
-    let bad = some-bad _ (sym t.before.all-in-range.ensures ∙ not-true _ t.if3.true) in
+    let bad = some_bad _ (sym t.before.all-in-range.ensures ∙ not-true _ t.if3.true) in
     let args = g.before.before.before.before.before.args in
-    does (call-bad _ _ _ (fits g.before) (from-good g) bad)
+    does (call_bad _ _ _ (fits g.before) (from-good g) bad)
     (c.refused3.ensures ∙ ap (λ (n : ℕ). record { number = 4; index = n; limited = 0; next = args.c }) b.first-bad.ensures) refl
 
 returns-4 : tie.Need-returns-4
@@ -52,8 +52,8 @@ returns-4 c =
     let r = c.before.before in
     let e = r.before.before in
     let g = e.before.before in
-    let clean = none-bad _ (sym e.before.all-in-range.ensures ∙ not-false _ e.if3.false) in
-    does (call-done _ _ _ (fits g.before) (from-good g) clean)
+    let clean = none_bad _ (sym e.before.all-in-range.ensures ∙ not-false _ e.if3.false) in
+    does (call_done _ _ _ (fits g.before) (from-good g) clean)
     r.run.ensures.answer r.run.ensures.left
 
 run-requires : tie.Need-run-requires

@@ -1,11 +1,11 @@
 -- `coder::good_coder` meets its contract, by those of its calls.
 use borrow.Author.Rules.{rules}
-use Rattle.g722.specs.Records.{goodCoder}
+use Rattle.g722.specs.Records.{good_coder}
 use Rattle.coder.proofs.good_coder.Statement.{statement}
 use Rattle.coder.proofs.good_coder.Tie as tie
 
 returns : tie.Need-returns
-unfolding goodCoder
+unfolding good_coder
 returns c =
     let past = c.before in
     let b = past.before.before in

@@ -4,9 +4,9 @@ use native.Mathlib.Omega.{arith}
 use borrow.Author.Rules.{rules}
 use lib.ListN.{length}
 use Rattle.laws.specs.Outcome.{becomes}
-use Rattle.facts.specs.Good.{coder-poles}
-use Rattle.mirror.specs.Fitting.{block-fits, split-fits}
-use Rattle.coder.proofs.InTurn.{coded-in-turn}
+use Rattle.facts.specs.Good.{coder_poles}
+use Rattle.mirror.specs.Fitting.{block_fits_lem, split_fits}
+use Rattle.coder.proofs.InTurn.{coded_in_turn}
 use Rattle.coder.proofs.in_turn.Statement.{statement}
 use Rattle.coder.proofs.in_turn.Tie as tie
 
@@ -16,10 +16,10 @@ returns c =
     let f = b.before.before.before.before.before.before.before in
     let s = f.before.before.before.before.before.before.before.before in
     let a = s.args in
-    let fits = block-fits (length a.samples.now) (length a.low.now) (length a.high.now) in
+    let fits = block_fits_lem (length a.samples.now) (length a.low.now) (length a.high.now) in
     let whole = fits (omega (arith, s.requires)) (omega (arith, s.requires)) (omega (arith, s.requires)) in
-    let split = becomes (split-fits a.c.past a.samples.now a.low.now a.high.now whole) f.split.ensures in
-    coded-in-turn _ _ split b.bands-all.ensures c.done.ensures
+    let split = becomes (split_fits a.c.past a.samples.now a.low.now a.high.now whole) f.split.ensures in
+    coded_in_turn _ _ split b.bands-all.ensures c.done.ensures
 
 bands-all-requires : tie.Need-bands-all-requires
 bands-all-requires c κs =
@@ -28,7 +28,7 @@ bands-all-requires c κs =
     let low = f.split.auto.1.1.0 in
     let high = f.split.auto.1.1.1.0 in
     let n = s.requires.1.1 in
-    (s.requires.0, (n.1.1.0, (low ∙ n.0, (high ∙ n.1.0, coder-poles s.args.c n.1.1.1.0))))
+    (s.requires.0, (n.1.1.0, (low ∙ n.0, (high ∙ n.1.0, coder_poles s.args.c n.1.1.1.0))))
 
 pub in-turn-spec : {M : Type 1} → statement M
 in-turn-spec =

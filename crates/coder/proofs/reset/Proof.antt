@@ -1,10 +1,10 @@
 -- `coder::reset` meets its contract, by those of its calls.
-use Rattle.g722.specs.Records.{resetCoder}
+use Rattle.g722.specs.Records.{reset_coder}
 use Rattle.coder.proofs.reset.Statement.{statement}
 use Rattle.coder.proofs.reset.Tie as tie
 
 returns : tie.Need-returns
-unfolding resetCoder
+unfolding reset_coder
 returns c = cc
 
 pub reset-spec : {M : Type 1} → statement M

@@ -6,11 +6,11 @@ use lib.ListN.{length, take, drop, length-take}
 use lib.Seq.{take_all}
 use borrow.Rule.Slice.PartMut.{mid_len}
 use Rattle.laws.specs.Outcome.{Does, does}
-use Rattle.laws.specs.Blocks.{part-long, part-put}
-use Rattle.facts.specs.Range.{range-take, range-drop}
-use Rattle.facts.specs.Blocks.{coderDone, coded-more, coded-next-good, coded-few}
+use Rattle.laws.specs.Blocks.{part_long, part_put}
+use Rattle.facts.specs.Range.{range_take, range_drop}
+use Rattle.facts.specs.Blocks.{coder_done, coded_more, coded_next_good, coded_few}
 use Rattle.g722.specs.Arithmetic.{overloads}
-use Rattle.g722.specs.Coding.{octetsOf, coderAfter, splitInFull, coded}
+use Rattle.g722.specs.Coding.{octets_of, coder_after, split_in_full, coded}
 use Rattle.coder.proofs.run.Statement.{statement}
 use Rattle.coder.proofs.run.Tie as tie
 
@@ -18,13 +18,13 @@ abbrev invariant-loop : tie.invariant-loop
 invariant-loop samples octets₀ s₀ limited₀ at₀ octets s limited at =
     (at ≤ length octets₀)
     × (length octets ≡ length octets₀)
-    × Does (coded s₀ (take (2 * at) samples)) (coderDone limited s) (take at octets)
+    × Does (coded s₀ (take (2 * at) samples)) (coder_done limited s) (take at octets)
 
 abbrev decreases-loop : tie.decreases-loop
 decreases-loop samples octets₀ s₀ limited₀ at₀ octets s limited at = length octets₀ - at
 
 loop-holds : tie.Need-loop-init invariant-loop decreases-loop
-unfolding coded octetsOf coderAfter splitInFull overloads
+unfolding coded octets_of coder_after split_in_full overloads
 loop-holds c = (zero-le, refl, record { answer = refl; left = refl })
 
 -- where a block ends, which is within the octets, and its samples within theirs
@@ -58,8 +58,8 @@ block-requires c κs =
     let n = mid_len at (to l) (lp l).loop.octets (room l) in
     let m = mid_len (2 * at) (2 * to l) samples (within l) in
     let g = (start l).requires.1.1 in
-    let good = coded-next-good _ (take (2 * at) samples) (lp l).loop.invariant.2 g.0 (range-take (2 * at) samples g.1) in
-    let clean = range-take (2 * to l - 2 * at) (drop (2 * at) samples) (range-drop (2 * at) samples g.1) in
+    let good = coded_next_good _ (take (2 * at) samples) (lp l).loop.invariant.2 g.0 (range_take (2 * at) samples g.1) in
+    let clean = range_take (2 * to l - 2 * at) (drop (2 * at) samples) (range_drop (2 * at) samples g.1) in
     (omega (arith, l.lesser.ensures, n), (omega (arith, n, m), (good, clean)))
 
 add-limited : tie.Need-overflow-add-limited invariant-loop decreases-loop
@@ -67,8 +67,8 @@ add-limited c =
     let b = c.before.before.before.before in
     let l = b.before.before.before in
     let samples = (start l).args.samples.now in
-    let more = coded-more _ samples (on l) (behind l) (lp l).loop.invariant.2 b.block.ensures in
-    omega (arith, coded-few _ (take (2 * to l) samples) more, length-take (2 * to l) samples, (start l).requires.0, (start l).requires.1.0)
+    let more = coded_more _ samples (on l) (behind l) (lp l).loop.invariant.2 b.block.ensures in
+    omega (arith, coded_few _ (take (2 * to l) samples) more, length-take (2 * to l) samples, (start l).requires.0, (start l).requires.1.0)
 
 loop-again : tie.Need-loop-preserved invariant-loop decreases-loop
 loop-again c =
@@ -77,10 +77,10 @@ loop-again c =
     let octets = (lp l).loop.octets in
     let y = b.block.new.1.1.0 in
     let same = b.block.auto.1.1.0 in
-    let more = coded-more _ (start l).args.samples.now (on l) (behind l) (lp l).loop.invariant.2 b.block.ensures in (
+    let more = coded_more _ (start l).args.samples.now (on l) (behind l) (lp l).loop.invariant.2 b.block.ensures in (
       omega (arith, room l),
-      part-long (on l) octets y same ∙ (lp l).loop.invariant.1,
-      record { answer = more.answer; left = part-put (on l) octets y same (room l) ∙ more.left },
+      part_long (on l) octets y same ∙ (lp l).loop.invariant.1,
+      record { answer = more.answer; left = part_put (on l) octets y same (room l) ∙ more.left },
     )
 
 same_length : tie.Need-same-length invariant-loop decreases-loop

@@ -3,7 +3,7 @@ use mathlib.Core.Path.{sym}
 use native.Mathlib.Nat.{mod-lt}
 use native.Mathlib.Omega.{arith}
 use borrow.Author.Rules.{rules}
-use Rattle.cue.specs.Bits.{byte_of, bit-of}
+use Rattle.cue.specs.Bits.{byte_of, bit_of}
 use Rattle.cue.proofs.bit.Statement.{statement}
 use Rattle.cue.proofs.bit.Tie as tie
 
@@ -21,7 +21,7 @@ div-result-2 c = c.before.power.ensures.1
 returns : tie.Need-returns
 returns c =
     let s = c.before.before.before in
-    (rw c.before.power.ensures.0 (sym (bit-of s.args.k s.args.n s.args.xs.now s.requires.0 s.requires.2)), omega arith)
+    (rw c.before.power.ensures.0 (sym (bit_of s.args.k s.args.n s.args.xs.now s.requires.0 s.requires.2)), omega arith)
 
 pub bit-spec : {M : Type 1} → statement M
 bit-spec =

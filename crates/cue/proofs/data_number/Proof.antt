@@ -5,7 +5,7 @@ use native.Mathlib.Nat.{mul-le-mul_right}
 use native.Mathlib.Omega.{arith}
 use borrow.Author.Rules.{rules}
 use borrow.Author.Tests.{lt-ltb, le-ltb, eq-eqb, ne_eqb}
-use Rattle.g722.specs.Cue.{dataNumber, unfilled}
+use Rattle.g722.specs.Cue.{data_number, unfilled}
 use Rattle.cue.proofs.data_number.Statement.{statement}
 use Rattle.cue.proofs.data_number.Tie as tie
 
@@ -15,24 +15,24 @@ module _ (mode octets bytes : ℕ) (h : mode ≤ 3) where
   few = mul-le-mul_right octets (omega arith)
 
   module _ (l : 2 ≤ mode) where
-    too_long : 8000 < octets → 3 ≡ dataNumber mode octets bytes
-    unfolding dataNumber unfilled
+    too_long : 8000 < octets → 3 ≡ data_number mode octets bytes
+    unfolding data_number unfilled
     too_long t = simp (le-ltb 3 mode h, le-ltb mode 2 l, lt-ltb 8000 octets t)
 
-    unlike : octets ≤ 8000 → (8 * bytes ≡ (mode - 1) * octets → ⊥) → 3 ≡ dataNumber mode octets bytes
-    unfolding dataNumber unfilled
+    unlike : octets ≤ 8000 → (8 * bytes ≡ (mode - 1) * octets → ⊥) → 3 ≡ data_number mode octets bytes
+    unfolding data_number unfilled
     unlike t u = simp (le-ltb 3 mode h, le-ltb mode 2 l, le-ltb 8000 octets t, ne_eqb _ _ u)
 
-    alike : octets ≤ 8000 → 8 * bytes ≡ (mode - 1) * octets → 0 ≡ dataNumber mode octets bytes
-    unfolding dataNumber unfilled
+    alike : octets ≤ 8000 → 8 * bytes ≡ (mode - 1) * octets → 0 ≡ data_number mode octets bytes
+    unfolding data_number unfilled
     alike t u = simp (le-ltb 3 mode h, le-ltb mode 2 l, le-ltb 8000 octets t, eq-eqb _ _ u)
 
 returns : tie.Need-returns
-unfolding dataNumber
+unfolding data_number
 returns c = simp (lt-ltb 3 c.before.args.mode (omega arith))
 
 returns-2 : tie.Need-returns-2
-unfolding dataNumber
+unfolding data_number
 returns-2 c = let m = c.before.before.args.mode in simp (le-ltb 3 m (omega arith), lt-ltb m 2 (omega arith))
 
 returns-3 : tie.Need-returns-3

@@ -6,7 +6,7 @@ use native.Mathlib.Nat.{mod-le, mul-zero}
 use native.Mathlib.Omega.{arith}
 use lib.ListN.{length, take, drop, get_or, length-set}
 use Rattle.g722.specs.Cue.{bits_of, carrying}
-use Rattle.cue.proofs.Laws.{fill-turn, fill_end, inside, octet-fits, octet-carries}
+use Rattle.cue.proofs.Laws.{fill_turn, fill_end, inside, octet_fits, octet_carries}
 use Rattle.cue.proofs.fill.Statement.{statement}
 use Rattle.cue.proofs.fill.Tie as tie
 
@@ -48,7 +48,7 @@ add-octets c =
     let o = get_or l.loop.octets l.loop.i 0 in
     let p = l.before.power in
     let byte = (c.before.slice-known2.given l.loop.i).fits in
-    omega (arith, mod-le o p.result, octet-fits _ p.ensures.0 o c.spell.result (omega arith) byte c.spell.ensures.1)
+    omega (arith, mod-le o p.result, octet_fits _ p.ensures.0 o c.spell.result (omega arith) byte c.spell.ensures.1)
 
 loop-again : tie.Need-loop-preserved invariant-loop decreases-loop
 loop-again c =
@@ -56,9 +56,9 @@ loop-again c =
     let a = l.before.before.before.before.args in
     let o = l.loop.octets in
     let i = l.loop.i in
-    let e = octet-carries a.k l.before.power.ensures.0 (get_or o i 0) c.spell.result c.spell.ensures.0 in
+    let e = octet_carries a.k l.before.power.ensures.0 (get_or o i 0) c.spell.result c.spell.ensures.0 in
     let v = l.loop.invariant in
-    (v.0, length-set o i _ ∙ v.1, fill-turn a.k i _ o (bits_of 8 a.bytes.now) (omega arith) e ∙ v.2)
+    (v.0, length-set o i _ ∙ v.1, fill_turn a.k i _ o (bits_of 8 a.bytes.now) (omega arith) e ∙ v.2)
 
 same_length : tie.Need-same-length invariant-loop decreases-loop
 same_length c = c.before.loop.invariant.1

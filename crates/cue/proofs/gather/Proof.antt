@@ -6,7 +6,7 @@ use native.Mathlib.Nat.{sub-zero}
 use native.Mathlib.Omega.{arith}
 use lib.ListN.{length, take, drop, length-set}
 use Rattle.g722.specs.Cue.{bits_of, gathered}
-use Rattle.cue.proofs.Laws.{gather-turn, gather-end}
+use Rattle.cue.proofs.Laws.{gather_turn, gather_end}
 use Rattle.cue.proofs.gather.Statement.{statement}
 use Rattle.cue.proofs.gather.Tie as tie
 
@@ -30,7 +30,7 @@ loop-again c =
     let j = l.loop.j in
     let v = l.loop.invariant in
     let from = bits_of a.k a.octets.now in
-    let turn = gather-turn j (length a.bytes.now) _ b from (omega arith) (omega arith) c.spell.ensures.0 in
+    let turn = gather_turn j (length a.bytes.now) _ b from (omega arith) (omega arith) c.spell.ensures.0 in
     (v.0, length-set b j _ ∙ v.1, turn ∙ v.2)
 
 same_length : tie.Need-same-length invariant-loop decreases-loop
@@ -42,7 +42,7 @@ returns c =
     let a = l.before.before.before.args in
     let from = bits_of a.k a.octets.now in
     let j = l.loop.j in
-    sym (gather-end j (length a.bytes.now) (8 * j) l.loop.bytes from (omega arith) (omega arith)) ∙ l.loop.invariant.2
+    sym (gather_end j (length a.bytes.now) (8 * j) l.loop.bytes from (omega arith) (omega arith)) ∙ l.loop.invariant.2
 
 pub gather-spec : {M : Type 1} → statement M
 gather-spec =

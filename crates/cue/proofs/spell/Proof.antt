@@ -6,7 +6,7 @@ use native.Mathlib.Numerals.{add-one}
 use native.Mathlib.Omega.{arith}
 use lib.ListN.{length, take, drop}
 use Rattle.g722.specs.Cue.{bits_of, spelt}
-use Rattle.cue.specs.Bits.{length-bitsOf, spelt-turn}
+use Rattle.cue.specs.Bits.{length-bits_of, spelt_turn}
 use Rattle.cue.proofs.spell.Statement.{statement}
 use Rattle.cue.proofs.spell.Tie as tie
 
@@ -47,11 +47,11 @@ loop-again c =
     let from = bits_of a.k a.xs.now in
     let e : a.w - (l.loop.left - 1) ≡ d + 1 = omega arith in
     let f : a.n + (d + 1) ≡ a.n + d + 1 = omega arith in
-    let h : a.n + d < length from = rw (length-bitsOf a.k a.xs.now) (omega arith) in
+    let h : a.n + d < length from = rw (length-bits_of a.k a.xs.now) (omega arith) in
     rw e (
       omega arith,
       rw (add-one d, pow-suc 2 d) (omega arith),
-      rw (f, c.bit.ensures.0) (spelt-turn l.loop.value (a.n + d) l.loop.left from (omega arith) h ∙ l.loop.invariant.2),
+      rw (f, c.bit.ensures.0) (spelt_turn l.loop.value (a.n + d) l.loop.left from (omega arith) h ∙ l.loop.invariant.2),
     )
 
 returns : tie.Need-returns invariant-loop decreases-loop

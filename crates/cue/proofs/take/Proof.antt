@@ -3,14 +3,14 @@ use mathlib.Core.Path.{sym, ◌∙◌}
 use native.Mathlib.Omega.{arith}
 use borrow.Author.Rules.{rules}
 use lib.ListN.{length}
-use Rattle.g722.specs.Cue.{givenUp, takeCall}
+use Rattle.g722.specs.Cue.{given_up, take_call}
 use Rattle.cue.specs.Fills.{Fills, passed}
 use Rattle.cue.proofs.Laws.{done, refused}
 use Rattle.cue.proofs.take.Statement.{statement}
 use Rattle.cue.proofs.take.Tie as tie
 
 fills : (c : tie.Then1)
-    → let a = c.before.before.before.before.args in Fills (givenUp a.mode) (length a.octets.now) (length a.bytes.now)
+    → let a = c.before.before.before.before.args in Fills (given_up a.mode) (length a.octets.now) (length a.bytes.now)
 fills c = passed _ _ _ (sym c.before.data-number.ensures ∙ c.if1.true)
 
 sub-gather : tie.Need-overflow-sub-gather
@@ -20,13 +20,13 @@ gather-requires : tie.Need-gather-requires
 gather-requires c κs = fills c.before
 
 returns : tie.Need-returns
-unfolding takeCall
+unfolding take_call
 returns c =
     let t = c.before.before.before.before in
     done t.before.data-number.ensures _ _ t.if1.true c.before.before.gather.ensures
 
 returns-2 : tie.Need-returns-2
-unfolding takeCall
+unfolding take_call
 returns-2 c = refused c.before.data-number.ensures _ _ c.if1.false
 
 pub take_spec : {M : Type 1} → statement M

@@ -8,22 +8,22 @@ use Prim.Native.Nat.{ℕ}
 use lib.ListN.{length}
 use Rattle.laws.specs.Outcome.{does}
 use Rattle.facts.specs.Lengths.{twice, few}
-use Rattle.g722.specs.Records.{goodDecoder}
+use Rattle.g722.specs.Records.{good_decoder}
 use Rattle.g722.specs.Coding.{misfit}
-use Rattle.g722.specs.Decoding.{notDecoded, decoded}
-use Rattle.decoder.proofs.Laws.{call-mode, call-misfit, call-broken, call-done}
+use Rattle.g722.specs.Decoding.{not_decoded, decoded}
+use Rattle.decoder.proofs.Laws.{call_mode, call_misfit, call_broken, call_done}
 use Rattle.decoder.proofs.decode.Statement.{statement}
 use Rattle.decoder.proofs.decode.Tie as tie
 
 returns : tie.Need-returns
-unfolding notDecoded
-returns c = does (call-mode _ _ _ _ (omega arith)) c.refused.ensures refl
+unfolding not_decoded
+returns c = does (call_mode _ _ _ _ (omega arith)) c.refused.ensures refl
 
 returns-2 : tie.Need-returns-2
-unfolding notDecoded
+unfolding not_decoded
 returns-2 c =
     let t = c.before in
-    does (call-misfit _ _ _ _ (omega arith) (sym t.before.before.before.misfit.ensures ∙ t.if2.true)) c.refused2.ensures refl
+    does (call_misfit _ _ _ _ (omega arith) (sym t.before.before.before.misfit.ensures ∙ t.if2.true)) c.refused2.ensures refl
 
 -- past the second test
 fits : (e : tie.Else2)
@@ -32,15 +32,15 @@ fits : (e : tie.Else2)
 fits e = sym e.before.before.before.misfit.ensures ∙ e.if2.false
 
 returns-3 : tie.Need-returns-3
-unfolding notDecoded
+unfolding not_decoded
 returns-3 c =
     let t = c.before in
     let broken = sym t.before.before.before.good-decoder.ensures ∙ not-true _ t.if3.true in
-    does (call-broken _ _ _ _ (omega arith) (fits t.before) broken)
+    does (call_broken _ _ _ _ (omega arith) (fits t.before) broken)
     c.refused3.ensures refl
 
 -- past the third
-good : (e : tie.Else3) → goodDecoder e.before.before.before.before.before.before.args.d ≡ true
+good : (e : tie.Else3) → good_decoder e.before.before.before.before.before.before.args.d ≡ true
 good e = sym e.before.before.before.good-decoder.ensures ∙ not-false _ e.if3.false
 
 returns-4 : tie.Need-returns-4
@@ -50,7 +50,7 @@ returns-4 c =
     let e = f.before in
     let args = e.before.before.before.before.before.before.args in
     let told = f.in-force.ensures in
-    does (call-done _ _ _ _ (omega arith) (fits e.before) (good e))
+    does (call_done _ _ _ _ (omega arith) (fits e.before) (good e))
     (r.run.ensures.answer ∙ ap (λ (m : ℕ). (decoded m args.d args.octets.now).answer) told)
     (r.run.ensures.left ∙ ap (λ (m : ℕ). (decoded m args.d args.octets.now).left) told)
 

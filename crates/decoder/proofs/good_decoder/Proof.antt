@@ -1,6 +1,6 @@
 -- `decoder::good_decoder` meets its contract, by those of its calls.
 use borrow.Author.Rules.{rules}
-use Rattle.g722.specs.Records.{goodDecoder}
+use Rattle.g722.specs.Records.{good_decoder}
 use Rattle.decoder.proofs.good_decoder.Statement.{statement}
 use Rattle.decoder.proofs.good_decoder.Tie as tie
 
@@ -10,7 +10,7 @@ slice-aggregate-all-in-range-2 c =
     search (rules, g)
 
 returns : tie.Need-returns
-unfolding goodDecoder
+unfolding good_decoder
 returns c =
     let rh = c.before in
     let bands = rh.before.before in

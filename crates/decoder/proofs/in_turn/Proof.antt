@@ -4,26 +4,26 @@ use mathlib.Core.List.{List}
 use lib.IntN.{ℤ}
 use native.Mathlib.Omega.{arith}
 use borrow.Author.Rules.{rules}
-use Rattle.facts.specs.Steps.{full-in-steps, samples-in-steps, record-in-steps}
-use Rattle.facts.specs.Signals.{rls-in-range, rhs-in-range}
-use Rattle.facts.specs.Blocks.{heard-next-good}
-use Rattle.g722.specs.Records.{allInRange}
+use Rattle.facts.specs.Steps.{full_in_steps, samples_in_steps, record_in_steps}
+use Rattle.facts.specs.Signals.{rls_in_range, rhs_in_range}
+use Rattle.facts.specs.Blocks.{heard_next_good}
+use Rattle.g722.specs.Records.{all_in_range}
 use Rattle.g722.specs.Arithmetic.{overloads}
 use Rattle.g722.specs.Decoding.{decoded}
-use Rattle.g722.specs.Steps.{heardAfter, heard, joinedOf, joined}
+use Rattle.g722.specs.Steps.{heard_after, heard, joined_of, joined}
 use Rattle.decoder.proofs.in_turn.Statement.{statement}
 use Rattle.decoder.proofs.in_turn.Tie as tie
 
 returns : tie.Need-returns
-unfolding decoded heard joined heardAfter
+unfolding decoded heard joined heard_after
 returns c =
     let j = c.before in
     let h = j.before.before.before.before.before.before in
     let a = h.before.before.before.before.args in
     let octets = a.octets.now in
     let did = h.hear-block.ensures in
-    let full = sym (full-in-steps a.mode a.d octets) in
-    let next = sym (record-in-steps a.mode a.d octets) in
+    let full = sym (full_in_steps a.mode a.d octets) in
+    let next = sym (record_in_steps a.mode a.d octets) in
     record {
       answer =
           j.join-block.ensures.answer
@@ -31,8 +31,8 @@ returns c =
           ∙ λ i. record { number = 0; index = 0; limited = overloads (full i); next = next i };
       left =
           j.join-block.ensures.left
-          ∙ (λ i. joinedOf (did.answer i).next.past (did.left i).0 (did.left i).1)
-          ∙ sym (samples-in-steps a.mode a.d octets);
+          ∙ (λ i. joined_of (did.answer i).next.past (did.left i).0 (did.left i).1)
+          ∙ sym (samples_in_steps a.mode a.d octets);
     }
 
 -- what was heard is what joining asks for
@@ -43,9 +43,9 @@ join-block-requires c κs =
     let s = h.before.before.before.before in
     let octets = s.args.octets.now in
     let did = h.hear-block.ensures in
-    let good = heard-next-good s.args.mode s.args.d octets did s.requires.1.1.1.1 in
-    let rl = ap (λ (x : List ℤ × List ℤ). allInRange x.0) did.left ∙ rls-in-range s.args.mode s.args.d.low octets in
-    let rh = ap (λ (x : List ℤ × List ℤ). allInRange x.1) did.left ∙ rhs-in-range s.args.d.high octets in
+    let good = heard_next_good s.args.mode s.args.d octets did s.requires.1.1.1.1 in
+    let rl = ap (λ (x : List ℤ × List ℤ). all_in_range x.0) did.left ∙ rls_in_range s.args.mode s.args.d.low octets in
+    let rh = ap (λ (x : List ℤ × List ℤ). all_in_range x.1) did.left ∙ rhs_in_range s.args.d.high octets in
     let low = h.hear-block.auto.1.1.1.0 in
     let high = h.hear-block.auto.1.1.1.1.0 in
     (omega (arith, low, s.requires), (omega (arith, low, high, s.requires), (omega (arith, low, s.requires), (good, (rl, rh)))))

@@ -1,10 +1,10 @@
 -- `decoder::reset` meets its contract, by those of its calls.
-use Rattle.g722.specs.Records.{resetDecoder}
+use Rattle.g722.specs.Records.{reset_decoder}
 use Rattle.decoder.proofs.reset.Statement.{statement}
 use Rattle.decoder.proofs.reset.Tie as tie
 
 returns : tie.Need-returns
-unfolding resetDecoder
+unfolding reset_decoder
 returns c = rw (c.reset-band2.ensures, c.before.reset-band.ensures)
 
 pub reset-spec : {M : Type 1} → statement M

@@ -6,10 +6,10 @@ use lib.ListN.{length, take, length-take}
 use lib.Seq.{take_all}
 use borrow.Rule.Slice.PartMut.{mid_len}
 use Rattle.laws.specs.Outcome.{Does, does}
-use Rattle.laws.specs.Blocks.{part-long, part-put}
-use Rattle.facts.specs.Blocks.{done, decoded-more, decoded-next-good, decoded-few}
+use Rattle.laws.specs.Blocks.{part_long, part_put}
+use Rattle.facts.specs.Blocks.{done, decoded_more, decoded_next_good, decoded_few}
 use Rattle.g722.specs.Arithmetic.{overloads}
-use Rattle.g722.specs.Decoding.{samplesInFull, samplesOf, decoderAfter, decoded}
+use Rattle.g722.specs.Decoding.{samples_in_full, samples_of, decoder_after, decoded}
 use Rattle.decoder.proofs.run.Statement.{statement}
 use Rattle.decoder.proofs.run.Tie as tie
 
@@ -23,7 +23,7 @@ abbrev decreases-loop : tie.decreases-loop
 decreases-loop mode octets samples₀ s₀ limited₀ at₀ samples s limited at = length octets - at
 
 loop-holds : tie.Need-loop-init invariant-loop decreases-loop
-unfolding decoded samplesOf samplesInFull decoderAfter overloads
+unfolding decoded samples_of samples_in_full decoder_after overloads
 loop-holds c = (zero-le, refl, record { answer = refl; left = refl })
 
 -- where a block ends, which is within the octets, and its samples within theirs
@@ -52,7 +52,7 @@ block-requires c κs =
     let at = (lp l).loop.at in
     let octets = mid_len at (to l) (start l).args.octets.now (within l) in
     let samples = mid_len (2 * at) (2 * to l) (lp l).loop.samples (room l) in
-    let good = decoded-next-good _ _ (take at (start l).args.octets.now) (lp l).loop.invariant.2 (start l).requires.1.1 in
+    let good = decoded_next_good _ _ (take at (start l).args.octets.now) (lp l).loop.invariant.2 (start l).requires.1.1 in
     (omega (arith, l.lesser.ensures, octets), (omega (arith, octets, samples), good))
 
 add-limited : tie.Need-overflow-add-limited invariant-loop decreases-loop
@@ -60,8 +60,8 @@ add-limited c =
     let b = c.before.before.before in
     let l = b.before.before.before in
     let octets = (start l).args.octets.now in
-    let more = decoded-more _ _ octets (on l) (lp l).loop.invariant.2 b.block.ensures in
-    omega (arith, decoded-few _ _ (take (to l) octets) more, length-take (to l) octets, (start l).requires.0)
+    let more = decoded_more _ _ octets (on l) (lp l).loop.invariant.2 b.block.ensures in
+    omega (arith, decoded_few _ _ (take (to l) octets) more, length-take (to l) octets, (start l).requires.0)
 
 loop-again : tie.Need-loop-preserved invariant-loop decreases-loop
 loop-again c =
@@ -71,10 +71,10 @@ loop-again c =
     let samples = (lp l).loop.samples in
     let y = b.block.new.1.1.1.0 in
     let same = b.block.auto.1.1.1.0 in
-    let more = decoded-more _ _ (start l).args.octets.now (on l) (lp l).loop.invariant.2 b.block.ensures in (
+    let more = decoded_more _ _ (start l).args.octets.now (on l) (lp l).loop.invariant.2 b.block.ensures in (
       within l,
-      part-long twice samples y same ∙ (lp l).loop.invariant.1,
-      record { answer = more.answer; left = part-put twice samples y same (room l) ∙ more.left },
+      part_long twice samples y same ∙ (lp l).loop.invariant.1,
+      record { answer = more.answer; left = part_put twice samples y same (room l) ∙ more.left },
     )
 
 same_length : tie.Need-same-length invariant-loop decreases-loop

@@ -4,16 +4,16 @@ use mathlib.Core.Bool.{false, cond}
 use Prim.Native.Nat.{ℕ}
 use native.Mathlib.Omega.{arith}
 use borrow.Author.Rules.{rules}
-use Rattle.laws.specs.Order.{by-test}
-use Rattle.conference.specs.Tick.{unseated, resetCall}
+use Rattle.laws.specs.Order.{by_test}
+use Rattle.conference.specs.Tick.{unseated, reset_call}
 use Rattle.conference.specs.Cases.{seated}
 use Rattle.desk.proofs.ports.Statement.{statement}
 use Rattle.desk.proofs.ports.Tie as tie
 
 -- 9 is not 0
-not-refused : (n : ℕ) → (resetCall n).number ≡ 0 → unseated n ≡ false
-unfolding resetCall
-not-refused n e = by-test (unseated n) (λ t. absurd (omega (arith, sym (ap (λ b. cond b 9 0) t) ∙ e))) (λ t. t)
+not-refused : (n : ℕ) → (reset_call n).number ≡ 0 → unseated n ≡ false
+unfolding reset_call
+not-refused n e = by_test (unseated n) (λ t. absurd (omega (arith, sym (ap (λ b. cond b 9 0) t) ∙ e))) (λ t. t)
 
 returns-3 : tie.Need-returns-3
 returns-3 c =

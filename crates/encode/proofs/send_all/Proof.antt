@@ -1,14 +1,14 @@
 -- `encode::send_all` meets its contract: the index of a refusal lies in the chunk.
-use Rattle.pcm.specs.Chunks.{index-within}
+use Rattle.pcm.specs.Chunks.{index_within}
 use borrow.Author.Rules.{rules}
 use Rattle.encode.proofs.send_all.Statement.{statement}
 use Rattle.encode.proofs.send_all.Tie as tie
 
 returns : tie.Need-returns
-returns c = rw c.before.before.before.before.encode-chunk.ensures.answer (index-within _ _ _)
+returns c = rw c.before.before.before.before.encode-chunk.ensures.answer (index_within _ _ _)
 
 returns-2 : tie.Need-returns-2
-returns-2 c = rw c.before.before.before.before.before.before.encode-chunk.ensures.answer (index-within _ _ _)
+returns-2 c = rw c.before.before.before.before.before.before.encode-chunk.ensures.answer (index_within _ _ _)
 
 pub send-all-spec : {M : Type 1} → statement M
 send-all-spec =

@@ -7,19 +7,19 @@ use borrow.Author.Rules.{rules}
 use Rattle.laws.specs.Outcome.{Outcome, Does}
 use Rattle.g722.specs.declared.Coded.{Coded}
 use Rattle.g722.specs.declared.Coder.{Coder}
-use Rattle.pcm.specs.Chunks.{encodeChunk, index-small}
-use Rattle.state.specs.Layout.{coderIn, coderBytes}
-use Rattle.host.specs.Calls.{afterCoding, codeBytes}
-use Rattle.host.proofs.Laws.{moves, stays, coder-held}
+use Rattle.pcm.specs.Chunks.{encode_chunk, index_small}
+use Rattle.state.specs.Layout.{coder_in, coder_bytes}
+use Rattle.host.specs.Calls.{after_coding, code_bytes}
+use Rattle.host.proofs.Laws.{moves, stays, coder_held}
 use Rattle.host.proofs.zelcandry_code.Statement.{statement}
 use Rattle.host.proofs.zelcandry_code.Tie as tie
 
 -- the call on the record that the state's bytes hold
 abbrev meant : tie.After-encode-chunk → Coder → Outcome Coded (List ℕ)
-meant e r = let a = e.before.before.before.before.before.before.before.args in encodeChunk r a.samples.now a.octets.now
+meant e r = let a = e.before.before.before.before.before.before.before.args in encode_chunk r a.samples.now a.octets.now
 
 abbrev held : tie.After-encode-chunk → Coder
-held e = coderIn e.before.before.before.before.before.before.before.args.state.now
+held e = coder_in e.before.before.before.before.before.before.before.args.state.now
 
 did : (e : tie.After-encode-chunk) → Does (meant e (held e)) e.encode-chunk.result e.encode-chunk.new.1.1.0
 did e =
@@ -30,27 +30,27 @@ packed-requires : tie.Need-packed-requires
 packed-requires c κs =
     let e = c.before.before in
     let a = e.before.before.before.before.before.before.before.args in
-    omega (arith, ap (λ (r : Coded). r.index) (did e).answer, index-small (coderIn a.state.now) a.samples.now a.octets.now)
+    omega (arith, ap (λ (r : Coded). r.index) (did e).answer, index_small (coder_in a.state.now) a.samples.now a.octets.now)
 
 returns : tie.Need-returns
-unfolding afterCoding codeBytes
+unfolding after_coding code_bytes
 returns c =
     let t = c.before.before.before.before in
     let p = t.before.before in
     let e = p.before.before.before in
     let a = e.before.before.before.before.before.before.before.args in
     let done = sym (ap (λ (r : Coded). r.number) (did e).answer) ∙ t.if1.true in
-    moves (λ (r : Coded). r.number) (λ (r : Coded). r.index) (λ (r : Coded). r.limited) (λ (r : Coded). coderBytes r.next)
+    moves (λ (r : Coded). r.number) (λ (r : Coded). r.index) (λ (r : Coded). r.limited) (λ (r : Coded). coder_bytes r.next)
     a.state.now (meant e (held e)) (did e) p.packed.ensures t.if1.true
-    (coder-held a.state.now a.samples.now a.octets.now done) c.before.before.write-coder.ensures
+    (coder_held a.state.now a.samples.now a.octets.now done) c.before.before.write-coder.ensures
 
 returns-2 : tie.Need-returns-2
-unfolding afterCoding codeBytes
+unfolding after_coding code_bytes
 returns-2 c =
     let p = c.before.before in
     let e = p.before.before.before in
     let a = e.before.before.before.before.before.before.before.args in
-    stays (λ (r : Coded). r.number) (λ (r : Coded). r.index) (λ (r : Coded). r.limited) (λ (r : Coded). coderBytes r.next)
+    stays (λ (r : Coded). r.number) (λ (r : Coded). r.index) (λ (r : Coded). r.limited) (λ (r : Coded). coder_bytes r.next)
     a.state.now (meant e (held e)) (did e) p.packed.ensures c.if1.false
 
 pub zelcandry-code-spec : {M : Type 1} → statement M

@@ -7,10 +7,10 @@ use borrow.Author.Rules.{rules}
 use Rattle.laws.specs.Outcome.{Outcome, Does}
 use Rattle.g722.specs.declared.Decoded.{Decoded}
 use Rattle.g722.specs.declared.Decoder.{Decoder}
-use Rattle.pcm.specs.Chunks.{decodeChunk}
-use Rattle.state.specs.Layout.{decoderIn, decoderBytes}
-use Rattle.host.specs.Calls.{afterDecoding, decodeBytes}
-use Rattle.host.proofs.Laws.{moves, stays, decoder-held, index-none}
+use Rattle.pcm.specs.Chunks.{decode_chunk}
+use Rattle.state.specs.Layout.{decoder_in, decoder_bytes}
+use Rattle.host.specs.Calls.{after_decoding, decode_bytes}
+use Rattle.host.proofs.Laws.{moves, stays, decoder_held, index_none}
 use Rattle.host.proofs.zelcandry_decode.Statement.{statement}
 use Rattle.host.proofs.zelcandry_decode.Tie as tie
 
@@ -18,10 +18,10 @@ use Rattle.host.proofs.zelcandry_decode.Tie as tie
 abbrev meant : tie.After-decode-chunk → Decoder → Outcome Decoded (List ℕ)
 meant e r =
     let a = e.before.before.before.before.before.before.before.args in
-    decodeChunk r a.mode a.octets.now a.samples.now
+    decode_chunk r a.mode a.octets.now a.samples.now
 
 abbrev held : tie.After-decode-chunk → Decoder
-held e = decoderIn e.before.before.before.before.before.before.before.args.state.now
+held e = decoder_in e.before.before.before.before.before.before.before.args.state.now
 
 did : (e : tie.After-decode-chunk) → Does (meant e (held e)) e.decode-chunk.result e.decode-chunk.new.1.1.1.0
 did e =
@@ -32,28 +32,28 @@ packed-requires : tie.Need-packed-requires
 packed-requires c κs =
     let e = c.before.before in
     let a = e.before.before.before.before.before.before.before.args in
-    let none = index-none (decoderIn a.state.now) a.mode a.octets.now a.samples.now in
+    let none = index_none (decoder_in a.state.now) a.mode a.octets.now a.samples.now in
     omega (arith, ap (λ (r : Decoded). r.index) (did e).answer, none)
 
 returns : tie.Need-returns
-unfolding afterDecoding decodeBytes
+unfolding after_decoding decode_bytes
 returns c =
     let t = c.before.before.before.before in
     let p = t.before.before in
     let e = p.before.before.before in
     let a = e.before.before.before.before.before.before.before.args in
     let done = sym (ap (λ (r : Decoded). r.number) (did e).answer) ∙ t.if1.true in
-    moves (λ (r : Decoded). r.number) (λ (r : Decoded). r.index) (λ (r : Decoded). r.limited) (λ (r : Decoded). decoderBytes r.next)
+    moves (λ (r : Decoded). r.number) (λ (r : Decoded). r.index) (λ (r : Decoded). r.limited) (λ (r : Decoded). decoder_bytes r.next)
     a.state.now (meant e (held e)) (did e) p.packed.ensures t.if1.true
-    (decoder-held a.state.now a.mode a.octets.now a.samples.now done) c.before.before.write-decoder.ensures
+    (decoder_held a.state.now a.mode a.octets.now a.samples.now done) c.before.before.write-decoder.ensures
 
 returns-2 : tie.Need-returns-2
-unfolding afterDecoding decodeBytes
+unfolding after_decoding decode_bytes
 returns-2 c =
     let p = c.before.before in
     let e = p.before.before.before in
     let a = e.before.before.before.before.before.before.before.args in
-    stays (λ (r : Decoded). r.number) (λ (r : Decoded). r.index) (λ (r : Decoded). r.limited) (λ (r : Decoded). decoderBytes r.next)
+    stays (λ (r : Decoded). r.number) (λ (r : Decoded). r.index) (λ (r : Decoded). r.limited) (λ (r : Decoded). decoder_bytes r.next)
     a.state.now (meant e (held e)) (did e) p.packed.ensures c.if1.false
 
 pub zelcandry-decode-spec : {M : Type 1} → statement M

@@ -7,12 +7,12 @@ use borrow.Author.Rules.{rules}
 use Rattle.laws.specs.Outcome.{Outcome, Does}
 use Rattle.g722.specs.declared.Decoded.{Decoded}
 use Rattle.g722.specs.declared.Decoder.{Decoder}
-use Rattle.pcm.specs.Signals.{hearChunk, hear-index}
-use Rattle.state.specs.Layout.{decoderIn, decoderBytes}
-use Rattle.host.specs.Calls.{afterDecoding}
+use Rattle.pcm.specs.Signals.{hear_chunk, hear_index}
+use Rattle.state.specs.Layout.{decoder_in, decoder_bytes}
+use Rattle.host.specs.Calls.{after_decoding}
 use Rattle.host.proofs.Laws.{moves, stays}
-use Rattle.host_steps.specs.Calls.{hearBytes}
-use Rattle.host_steps.proofs.Laws.{hear-held}
+use Rattle.host_steps.specs.Calls.{hear_bytes}
+use Rattle.host_steps.proofs.Laws.{hear_held}
 use Rattle.host_steps.proofs.zelcandry_hear.Statement.{statement}
 use Rattle.host_steps.proofs.zelcandry_hear.Tie as tie
 
@@ -21,10 +21,10 @@ began e = e.before.before.before.before.before.before.before.before.before
 
 -- the call on the record that the state's bytes hold
 abbrev meant : tie.After-hear-chunk → Decoder → Outcome Decoded (List ℕ × List ℕ)
-meant e r = let a = (began e).args in hearChunk r a.mode a.octets.now a.low.now a.high.now
+meant e r = let a = (began e).args in hear_chunk r a.mode a.octets.now a.low.now a.high.now
 
 abbrev held : tie.After-hear-chunk → Decoder
-held e = decoderIn (began e).args.state.now
+held e = decoder_in (began e).args.state.now
 
 abbrev left : tie.After-hear-chunk → List ℕ × List ℕ
 left e = (e.hear-chunk.new.1.1.1.0, e.hear-chunk.new.1.1.1.1.0)
@@ -38,27 +38,27 @@ packed-requires : tie.Need-packed-requires
 packed-requires c κs =
     let e = c.before.before.before.before in
     let a = (began e).args in
-    let none = hear-index (held e) a.mode a.octets.now a.low.now a.high.now in
+    let none = hear_index (held e) a.mode a.octets.now a.low.now a.high.now in
     omega (arith, ap (λ (r : Decoded). r.index) (did e).answer, none)
 
 returns : tie.Need-returns
-unfolding afterDecoding hearBytes
+unfolding after_decoding hear_bytes
 returns c =
     let t = c.before.before.before.before in
     let p = t.before.before in
     let e = p.before.before.before.before.before in
     let a = (began e).args in
     let done = sym (ap (λ (r : Decoded). r.number) (did e).answer) ∙ t.if1.true in
-    moves (λ (r : Decoded). r.number) (λ (r : Decoded). r.index) (λ (r : Decoded). r.limited) (λ (r : Decoded). decoderBytes r.next)
+    moves (λ (r : Decoded). r.number) (λ (r : Decoded). r.index) (λ (r : Decoded). r.limited) (λ (r : Decoded). decoder_bytes r.next)
     a.state.now (meant e (held e)) (did e) p.packed.ensures t.if1.true
-    (hear-held a.state.now a.mode a.octets.now a.low.now a.high.now done) c.before.before.write-decoder.ensures
+    (hear_held a.state.now a.mode a.octets.now a.low.now a.high.now done) c.before.before.write-decoder.ensures
 
 returns-2 : tie.Need-returns-2
-unfolding afterDecoding hearBytes
+unfolding after_decoding hear_bytes
 returns-2 c =
     let p = c.before.before in
     let e = p.before.before.before.before.before in
-    stays (λ (r : Decoded). r.number) (λ (r : Decoded). r.index) (λ (r : Decoded). r.limited) (λ (r : Decoded). decoderBytes r.next)
+    stays (λ (r : Decoded). r.number) (λ (r : Decoded). r.index) (λ (r : Decoded). r.limited) (λ (r : Decoded). decoder_bytes r.next)
     (began e).args.state.now (meant e (held e)) (did e) p.packed.ensures c.if1.false
 
 pub zelcandry-hear-spec : {M : Type 1} → statement M

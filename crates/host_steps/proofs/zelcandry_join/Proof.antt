@@ -7,12 +7,12 @@ use borrow.Author.Rules.{rules}
 use Rattle.laws.specs.Outcome.{Outcome, Does}
 use Rattle.g722.specs.declared.Decoded.{Decoded}
 use Rattle.g722.specs.declared.Decoder.{Decoder}
-use Rattle.pcm.specs.Signals.{joinChunk, join-index}
-use Rattle.state.specs.Layout.{decoderIn, decoderBytes}
-use Rattle.host.specs.Calls.{afterDecoding}
+use Rattle.pcm.specs.Signals.{join_chunk, join_index}
+use Rattle.state.specs.Layout.{decoder_in, decoder_bytes}
+use Rattle.host.specs.Calls.{after_decoding}
 use Rattle.host.proofs.Laws.{moves, stays}
-use Rattle.host_steps.specs.Calls.{joinBytes}
-use Rattle.host_steps.proofs.Laws.{join-held}
+use Rattle.host_steps.specs.Calls.{join_bytes}
+use Rattle.host_steps.proofs.Laws.{join_held}
 use Rattle.host_steps.proofs.zelcandry_join.Statement.{statement}
 use Rattle.host_steps.proofs.zelcandry_join.Tie as tie
 
@@ -21,10 +21,10 @@ began e = e.before.before.before.before.before.before.before.before
 
 -- the call on the record that the state's bytes hold
 abbrev meant : tie.After-join-chunk → Decoder → Outcome Decoded (List ℕ)
-meant e r = let a = (began e).args in joinChunk r a.low.now a.high.now a.samples.now
+meant e r = let a = (began e).args in join_chunk r a.low.now a.high.now a.samples.now
 
 abbrev held : tie.After-join-chunk → Decoder
-held e = decoderIn (began e).args.state.now
+held e = decoder_in (began e).args.state.now
 
 did : (e : tie.After-join-chunk) → Does (meant e (held e)) e.join-chunk.result e.join-chunk.new.1.1.1.0
 did e =
@@ -35,26 +35,26 @@ packed-requires : tie.Need-packed-requires
 packed-requires c κs =
     let e = c.before.before in
     let a = (began e).args in
-    omega (arith, ap (λ (r : Decoded). r.index) (did e).answer, join-index (held e) a.low.now a.high.now a.samples.now)
+    omega (arith, ap (λ (r : Decoded). r.index) (did e).answer, join_index (held e) a.low.now a.high.now a.samples.now)
 
 returns : tie.Need-returns
-unfolding afterDecoding joinBytes
+unfolding after_decoding join_bytes
 returns c =
     let t = c.before.before.before.before in
     let p = t.before.before in
     let e = p.before.before.before in
     let a = (began e).args in
     let done = sym (ap (λ (r : Decoded). r.number) (did e).answer) ∙ t.if1.true in
-    moves (λ (r : Decoded). r.number) (λ (r : Decoded). r.index) (λ (r : Decoded). r.limited) (λ (r : Decoded). decoderBytes r.next)
+    moves (λ (r : Decoded). r.number) (λ (r : Decoded). r.index) (λ (r : Decoded). r.limited) (λ (r : Decoded). decoder_bytes r.next)
     a.state.now (meant e (held e)) (did e) p.packed.ensures t.if1.true
-    (join-held a.state.now a.low.now a.high.now a.samples.now done) c.before.before.write-decoder.ensures
+    (join_held a.state.now a.low.now a.high.now a.samples.now done) c.before.before.write-decoder.ensures
 
 returns-2 : tie.Need-returns-2
-unfolding afterDecoding joinBytes
+unfolding after_decoding join_bytes
 returns-2 c =
     let p = c.before.before in
     let e = p.before.before.before in
-    stays (λ (r : Decoded). r.number) (λ (r : Decoded). r.index) (λ (r : Decoded). r.limited) (λ (r : Decoded). decoderBytes r.next)
+    stays (λ (r : Decoded). r.number) (λ (r : Decoded). r.index) (λ (r : Decoded). r.limited) (λ (r : Decoded). decoder_bytes r.next)
     (began e).args.state.now (meant e (held e)) (did e) p.packed.ensures c.if1.false
 
 pub zelcandry-join-spec : {M : Type 1} → statement M

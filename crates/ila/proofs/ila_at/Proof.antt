@@ -3,7 +3,7 @@ use mathlib.Core.Path.{refl}
 use native.Mathlib.Omega.{arith}
 use borrow.Author.Rules.{rules}
 use Rattle.g722.specs.Tables.{ila}
-use Rattle.tables.specs.Entries.{above-table}
+use Rattle.tables.specs.Entries.{above_table}
 use Rattle.ila.proofs.ila_at.Statement.{statement}
 use Rattle.ila.proofs.ila_at.Tie as tie
 
@@ -13,7 +13,7 @@ returns c = refl
 
 returns-2 : tie.Need-returns-2
 unfolding ila
-returns-2 c = above-table ila 0 c.before.args.k (omega arith)
+returns-2 c = above_table ila 0 c.before.args.k (omega arith)
 
 pub ila-at-spec : {M : Type 1} → statement M
 ila-at-spec = tie.close (tie.spec (λ c. search rules) (λ c. search rules) returns returns-2)

@@ -3,18 +3,18 @@ use native.Mathlib.Omega.{arith}
 use mir.Syntax.{w16}
 use mir.Facts.{to_z_pos}
 use Rattle.g722.specs.Quantise.{scale_at}
-use Rattle.tables.specs.Entries.{ila-small}
+use Rattle.tables.specs.Entries.{ila_small}
 use Rattle.ila.proofs.stored.Statement.{statement}
 use Rattle.ila.proofs.stored.Tie as tie
 
 add-result : tie.Need-overflow-add-result
-add-result c = omega (arith, c.ila-at.ensures, ila-small c.before.args.k)
+add-result c = omega (arith, c.ila-at.ensures, ila_small c.before.args.k)
 
 mul-result : tie.Need-overflow-mul-result
-mul-result c = omega (arith, c.ila-at.ensures, ila-small c.before.args.k)
+mul-result c = omega (arith, c.ila-at.ensures, ila_small c.before.args.k)
 
 cast-result : tie.Need-overflow-cast-result
-cast-result c = record { sfits = omega (arith, c.ila-at.ensures, ila-small c.before.args.k) }
+cast-result c = record { sfits = omega (arith, c.ila-at.ensures, ila_small c.before.args.k) }
 
 returns : tie.Need-returns
 unfolding scale_at

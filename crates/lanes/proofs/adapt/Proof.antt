@@ -11,9 +11,9 @@ use mir.Val.{to_z, of_z}
 use mir.Facts.{to_z-of_z}
 use Rattle.laws.specs.Back.{got16, back16}
 use Rattle.laws.specs.Filled.{Filled, fill, filled}
-use Rattle.laws.specs.Zipped.{zip-at, zip_length}
+use Rattle.laws.specs.Zipped.{zip_at, zip_length}
 use Rattle.g722.specs.Band.{upzero}
-use Rattle.idle.specs.Plain.{signedGain-small, upzero-signed}
+use Rattle.idle.specs.Plain.{signed_gain_small, upzero_signed}
 use Rattle.lanes.proofs.adapt.Statement.{statement}
 use Rattle.lanes.proofs.adapt.Tie as tie
 
@@ -26,7 +26,7 @@ decreases-loop d b past g next₀ k₀ next k = 8 - k
 moved-requires : tie.Need-moved-requires invariant-loop decreases-loop
 moved-requires c κs =
     let g = c.before.before.before.before in
-    rw (got16 g.signed-gain ∙ g.signed-gain.ensures) (signedGain-small _)
+    rw (got16 g.signed-gain ∙ g.signed-gain.ensures) (signed_gain_small _)
 
 loop-again : tie.Need-loop-preserved invariant-loop decreases-loop
 loop-again c =
@@ -45,11 +45,11 @@ loop-again c =
     rw (
       got16 c.moved ∙ c.moved.ensures,
       got16 q.signed-gain ∙ q.signed-gain.ensures,
-      zip-at (upzero d) b past k (omega arith) (omega arith),
+      zip_at (upzero d) b past k (omega arith) (omega arith),
       back16 (get_or b k (pos 0)) c₂.moved-arg.given,
       back16 (get_or past k (pos 0)) c₁.moved-arg2.given,
     )
-    (upzero-signed d (get_or b k (pos 0)) (get_or past k (pos 0)))
+    (upzero_signed d (get_or b k (pos 0)) (get_or past k (pos 0)))
     in
     let long = zip_length (upzero d) b past (omega arith) in
     (omega arith, fill (zip_with (upzero d) b past) 8 l.loop.invariant.1 (pos 0) (omega arith) (omega arith) e)

@@ -3,7 +3,7 @@ use mathlib.Core.Path.{◌∙◌}
 use mir.Facts.{to_z-of_z}
 use Rattle.laws.specs.Back.{got16}
 use Rattle.g722.specs.Arithmetic.{negative}
-use Rattle.lanes.proofs.Sides.{sided, sided-fits}
+use Rattle.lanes.proofs.Sides.{sided, sided_fits}
 use Rattle.lanes.proofs.moved.Statement.{statement}
 use Rattle.lanes.proofs.moved.Tie as tie
 
@@ -11,7 +11,7 @@ mul-add : tie.Need-overflow-mul-add
 mul-add c =
     let s = c.before in
     rw (got16 c.side ∙ c.side.ensures, to_z-of_z s.ranges.g, to_z-of_z s.ranges.past)
-    (sided-fits (negative s.args.past) s.args.g s.requires)
+    (sided_fits (negative s.args.past) s.args.g s.requires)
 
 returns : tie.Need-returns
 returns c =

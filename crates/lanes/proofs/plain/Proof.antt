@@ -10,10 +10,10 @@ use mir.Syntax.{w32}
 use mir.Val.{to_z}
 use mir.Facts.{to_z-of_z}
 use Rattle.laws.specs.Back.{got32, back16}
-use Rattle.laws.specs.Zipped.{zip-at, zip_length}
+use Rattle.laws.specs.Zipped.{zip_at, zip_length}
 use Rattle.idle.specs.Plain.{raw}
 use Rattle.lanes.specs.Sum.{plain_of}
-use Rattle.lanes.proofs.Adding.{Adding, none, more, all-fits, high_fits, end-small, sum_is, fits-is}
+use Rattle.lanes.proofs.Adding.{Adding, none, more, all_fits, high_fits, end_small, sum_is, fits_is}
 use Rattle.lanes.proofs.plain.Statement.{statement}
 use Rattle.lanes.proofs.plain.Tie as tie
 
@@ -26,7 +26,7 @@ decreases-loop b d all₀ high₀ i₀ all high i = 8 - i
 add-all : tie.Need-overflow-add-all invariant-loop decreases-loop
 add-all c =
     let l = c.before.before.before.before in
-    rw (got32 c.raw) (all-fits l.loop.invariant.1 c.raw.result c.raw.ensures.1 (omega arith))
+    rw (got32 c.raw) (all_fits l.loop.invariant.1 c.raw.result c.raw.ensures.1 (omega arith))
 
 add-high : tie.Need-overflow-add-high invariant-loop decreases-loop
 add-high c =
@@ -51,7 +51,7 @@ loop-again c =
       r.raw.ensures.0,
       back16 (get_or b i (pos 0)) b1.raw-arg.given,
       back16 (get_or d i (pos 0)) d1.raw-arg2.given,
-      zip-at raw b d i (omega arith) (omega arith),
+      zip_at raw b d i (omega arith) (omega arith),
     )
     in (
       omega arith,
@@ -60,7 +60,7 @@ loop-again c =
     )
 
 whole-requires : tie.Need-whole-requires invariant-loop decreases-loop
-whole-requires c κs = let l = c.before in end-small l.loop.invariant.1 l.loop.invariant.0
+whole-requires c κs = let l = c.before in end_small l.loop.invariant.1 l.loop.invariant.0
 
 returns : tie.Need-returns invariant-loop decreases-loop
 unfolding plain_of
@@ -71,7 +71,7 @@ returns c =
     let b8 : length b ≡ 8 = search rules in
     let d8 : length d ≡ 8 = search rules in
     let k : length (zip_with raw b d) ≤ l.loop.i = omega (arith, zip_length raw b d (omega arith)) in
-    λ j. record { sum = sum_is l.loop.invariant.1 k j; whole = (c.whole.ensures ∙ fits-is l.loop.invariant.1 k) j }
+    λ j. record { sum = sum_is l.loop.invariant.1 k j; whole = (c.whole.ensures ∙ fits_is l.loop.invariant.1 k) j }
 
 pub plain-spec : {M : Type 1} → statement M
 plain-spec =

@@ -1,12 +1,12 @@
 -- `lanes::positive` meets its contract.
 use mathlib.Core.Path.{◌∙◌}
 use mir.Facts.{to_z-of_z}
-use Rattle.idle.specs.Plain.{up-below, up_above}
+use Rattle.idle.specs.Plain.{up_below, up_above}
 use Rattle.lanes.proofs.positive.Statement.{statement}
 use Rattle.lanes.proofs.positive.Tie as tie
 
 returns : tie.Need-returns
-returns c = up-below c.before.args.x (rw (to_z-of_z c.before.ranges.x) at c.if1.true)
+returns c = up_below c.before.args.x (rw (to_z-of_z c.before.ranges.x) at c.if1.true)
 
 returns-2 : tie.Need-returns-2
 returns-2 c = to_z-of_z c.before.ranges.x ∙ up_above c.before.args.x (rw (to_z-of_z c.before.ranges.x) at c.if1.false)

@@ -8,8 +8,8 @@ use mir.Val.{SFits, to_z, of_z}
 use Rattle.g722.specs.Arithmetic.{add}
 use mir.Facts.{to_z-of_z}
 use Rattle.laws.specs.Back.{got16, got32, widened}
-use Rattle.laws.specs.Size.{product-fits, shr-fits, abs-mul, abs16}
-use Rattle.idle.specs.Plain.{raw, shr-small}
+use Rattle.laws.specs.Size.{product_fits, shr_fits, abs_mul, abs16}
+use Rattle.idle.specs.Plain.{raw, shr_small}
 use Rattle.lanes.proofs.raw.Statement.{statement}
 use Rattle.lanes.proofs.raw.Tie as tie
 
@@ -19,7 +19,7 @@ mul-result c =
     let b = a.before in
     let s = b.before in
     let f : SFits w16 a.add.result = record { sfits = a.add.type-inv } in
-    rw (widened b.wide.type-inv b.wide.ensures s.ranges.b, widened c.wide2.type-inv c.wide2.ensures f) (product-fits s.ranges.b f)
+    rw (widened b.wide.type-inv b.wide.ensures s.ranges.b, widened c.wide2.type-inv c.wide2.ensures f) (product_fits s.ranges.b f)
 
 is : (c : tie.After-wide2)
     → let b = c.before.before in
@@ -31,7 +31,7 @@ is c =
     let b = a.before in
     let s = b.before in
     let m = mul-result c in
-    let k = to_z-of_z (shr-fits 32768 m) in
+    let k = to_z-of_z (shr_fits 32768 m) in
     cc (k, to_z-of_z m, got32 c.wide2, got32 b.wide, got16 a.add, to_z-of_z s.ranges.b, to_z-of_z s.ranges.d)
 
 returns : tie.Need-returns
@@ -43,8 +43,8 @@ returns c =
     let k : SFits w16 a.add.result = record { sfits = a.add.type-inv } in
     let f : SFits w16 (add s.args.d s.args.d) = rw e at k in
     let v = add s.args.d s.args.d in
-    let h = le_trans (le_of_eq (abs-mul s.args.b v)) (mul-le-mul (abs16 s.ranges.b) (abs16 f)) in
-    (is c, rw (is c) (shr-small (s.args.b *ℤ v) h))
+    let h = le_trans (le_of_eq (abs_mul s.args.b v)) (mul-le-mul (abs16 s.ranges.b) (abs16 f)) in
+    (is c, rw (is c) (shr_small (s.args.b *ℤ v) h))
 
 pub raw-spec : {M : Type 1} → statement M
 raw-spec = tie.close (tie.spec (λ c κs. tt) (λ c κs. tt) (λ c κs. tt) mul-result returns)

@@ -1,14 +1,14 @@
 -- `lanes::whole` meets its contract: both tests, the second where the first holds.
 use native.Mathlib.Omega.{arith}
 use mir.Facts.{to_z-of_z}
-use Rattle.laws.specs.Size.{fits-abs}
+use Rattle.laws.specs.Size.{fits_abs}
 use Rattle.lanes.proofs.whole.Statement.{statement}
 use Rattle.lanes.proofs.whole.Tie as tie
 
 sub-result : tie.Need-overflow-sub-result
 sub-result c =
     let s = c.before in
-    rw (to_z-of_z s.ranges.all, to_z-of_z s.ranges.high) (fits-abs (omega (arith, s.requires)))
+    rw (to_z-of_z s.ranges.all, to_z-of_z s.ranges.high) (fits_abs (omega (arith, s.requires)))
 
 returns : tie.Need-returns
 returns c =

@@ -4,7 +4,7 @@ use mathlib.Core.List.{[], ◌∷◌, ◌++◌}
 use Prim.Native.Nat.{ℕ, ◌/◌, ◌≤◌}
 use native.Mathlib.Omega.{arith}
 use lib.ListN.{length}
-use Rattle.lines.specs.Decimal.{decimal, decimal-one, decimal-more, decimal-most, decimal-some}
+use Rattle.lines.specs.Decimal.{decimal, decimal_one, decimal_more, decimal_most, decimal_some}
 use Rattle.lines.specs.Lines.{held, Sound}
 use Rattle.lines.proofs.Laws.{turn, left, ran}
 use Rattle.lines.proofs.decimal.Statement.{statement}
@@ -21,7 +21,7 @@ loop-holds c = (c.requires.sound, refl)
 
 -- 20 digits are enough
 most : (c : tie.Start invariant-loop decreases-loop) → length (decimal c.args.n) ≤ 20
-most c = decimal-most 19 c.args.n (omega (arith, c.ranges.n))
+most c = decimal_most 19 c.args.n (omega (arith, c.ranges.n))
 
 -- there is room for the digits that are left
 room : (c : tie.At-loop invariant-loop decreases-loop) → length (decimal c.loop.rest) ≤ c.loop.all.at
@@ -31,7 +31,7 @@ room c = left (decimal c.before.args.n) c.before.requires.sound c.loop.invariant
 put-requires : tie.Need-put-requires invariant-loop decreases-loop
 put-requires c κs = record {
   sound = c.before.before.loop.invariant.0;
-  room = omega (arith, room c.before.before, decimal-some c.before.before.loop.rest);
+  room = omega (arith, room c.before.before, decimal_some c.before.before.loop.rest);
 }
 
 loop-again : tie.Need-loop-preserved invariant-loop decreases-loop
@@ -40,14 +40,14 @@ loop-again c =
     let l = d.before.before.loop in (
       c.put.ensures.sound,
       turn (decimal l.rest) (decimal (l.rest / 10))
-          (decimal-more l.rest (omega arith) ∙ ap (λ (b : ℕ). decimal (l.rest / 10) ++ (b ∷ [])) (sym d.digit.ensures))
+          (decimal_more l.rest (omega arith) ∙ ap (λ (b : ℕ). decimal (l.rest / 10) ++ (b ∷ [])) (sym d.digit.ensures))
           c.put.ensures l.invariant.1,
     )
 
 put-requires-2 : tie.Need-put-requires-2 invariant-loop decreases-loop
 put-requires-2 c κs = record {
   sound = c.before.before.loop.invariant.0;
-  room = omega (arith, room c.before.before, decimal-some c.before.before.loop.rest);
+  room = omega (arith, room c.before.before, decimal_some c.before.before.loop.rest);
 }
 
 returns : tie.Need-returns invariant-loop decreases-loop
@@ -56,7 +56,7 @@ returns c =
     let l = d.before.before.loop in
     let start = d.before.before.before in
     ran _ start.requires.sound c.put2.ensures.sound
-    (turn (decimal l.rest) [] (decimal-one l.rest (omega arith) ∙ ap (λ (b : ℕ). b ∷ []) (sym d.digit2.ensures))
+    (turn (decimal l.rest) [] (decimal_one l.rest (omega arith) ∙ ap (λ (b : ℕ). b ∷ []) (sym d.digit2.ensures))
     c.put2.ensures l.invariant.1)
     (most start)
 

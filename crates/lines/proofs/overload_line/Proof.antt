@@ -1,13 +1,13 @@
 -- `lines::overload_line` meets its contract.
 use Rattle.lines.specs.Text.{ascii}
-use Rattle.lines.specs.Lines.{overloadLine}
+use Rattle.lines.specs.Lines.{overload_line}
 use Rattle.lines.proofs.Laws.{both, finished}
 use borrow.Author.Rules.{rules}
 use Rattle.lines.proofs.overload_line.Statement.{statement}
 use Rattle.lines.proofs.overload_line.Tie as tie
 
 returns : tie.Need-returns
-unfolding overloadLine ascii
+unfolding overload_line ascii
 returns c =
     let f = c.before.before in
     let w = f.before in

@@ -3,22 +3,22 @@ use Prim.Native.Nat.{◌*◌}
 use native.Mathlib.Omega.{arith}
 use borrow.Author.Rules.{rules}
 use borrow.Author.Tests.{lt-ltb, le-ltb, eq-eqb, ne_eqb}
-use Rattle.mirror.specs.Block.{blockFits}
+use Rattle.mirror.specs.Block.{block_fits}
 use Rattle.mirror.proofs.fits.Statement.{statement}
 use Rattle.mirror.proofs.fits.Tie as tie
 
 returns : tie.Need-returns
-unfolding blockFits
+unfolding block_fits
 returns c = simp (lt-ltb 160 c.before.args.low (omega arith))
 
 returns-2 : tie.Need-returns-2
-unfolding blockFits
+unfolding block_fits
 returns-2 c =
     let a = c.before.before.args in
     simp (le-ltb 160 a.low (omega arith), ne_eqb a.samples (2 * a.low) (λ e. omega arith))
 
 returns-3 : tie.Need-returns-3
-unfolding blockFits
+unfolding block_fits
 returns-3 c =
     let a = c.before.before.args in
     simp (le-ltb 160 a.low (omega arith), eq-eqb a.samples (2 * a.low) (omega arith))

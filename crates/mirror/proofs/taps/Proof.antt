@@ -5,8 +5,8 @@ use mir.Syntax.{w32}
 use mir.Val.{to_z, of_z}
 use Rattle.g722.specs.Tables.{h}
 use Rattle.g722.specs.Mirror.{coefficient}
-use Rattle.mirror.specs.Rows.{nth, tapsAt}
-use Rattle.mirror.proofs.Sums.{Read, is_read, phase-weight, Summed, none, product-fits, more-fits, more, whole}
+use Rattle.mirror.specs.Rows.{nth, taps_at}
+use Rattle.mirror.proofs.Sums.{Read, is_read, phase_weight, Summed, none, product_fits, more_fits, more, whole}
 use Rattle.mirror.proofs.taps.Statement.{statement}
 use Rattle.mirror.proofs.taps.Tie as tie
 
@@ -30,19 +30,19 @@ module _ (c : tie.After-wide2 invariant-loop decreases-loop) where
   b = is_read c.before.wide-arg2.given c.wide2.type-inv c.wide2.ensures
 
 mul-sum : tie.Need-overflow-mul-sum invariant-loop decreases-loop
-mul-sum c = product-fits (loop c).loop.invariant.1 (phase-weight _ (omega arith)) (a c) (b c) (omega arith)
+mul-sum c = product_fits (loop c).loop.invariant.1 (phase_weight _ (omega arith)) (a c) (b c) (omega arith)
 
 add-sum : tie.Need-overflow-add-sum invariant-loop decreases-loop
-add-sum c = more-fits (loop c).loop.invariant.1 (phase-weight _ (omega arith)) (a c) (b c) (omega arith)
+add-sum c = more_fits (loop c).loop.invariant.1 (phase_weight _ (omega arith)) (a c) (b c) (omega arith)
 
 loop-again : tie.Need-loop-preserved invariant-loop decreases-loop
-loop-again c = (omega arith, more (loop c).loop.invariant.1 (phase-weight _ (omega arith)) (a c) (b c) (omega arith))
+loop-again c = (omega arith, more (loop c).loop.invariant.1 (phase_weight _ (omega arith)) (a c) (b c) (omega arith))
 
 returns : tie.Need-returns invariant-loop decreases-loop
-unfolding tapsAt
+unfolding taps_at
 returns c =
     let l = c.before in
-    let r = whole l.loop.invariant.1 (phase-weight _ (omega arith)) (omega arith) in
+    let r = whole l.loop.invariant.1 (phase_weight _ (omega arith)) (omega arith) in
     (r.is, rw r.is r.small)
 
 pub taps-spec : {M : Type 1} → statement M

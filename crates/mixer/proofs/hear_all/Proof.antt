@@ -7,10 +7,10 @@ use lib.IntN.{pos}
 use lib.ListN.{length}
 use Rattle.laws.specs.Back.{back16}
 use Rattle.laws.specs.Filled.{Filled, fill}
-use Rattle.conference.specs.Ports.{rlsFrom, rhsFrom, decoderFrom}
-use Rattle.port.specs.Step.{heardOf}
-use Rattle.mixer.proofs.Laws.{full, Upto, none_yet, as-it-stood, one_more, all-ports}
-use Rattle.mixer.proofs.Laws.{rls-length, rhs-length, rl-of, rh-of}
+use Rattle.conference.specs.Ports.{rls_from, rhs_from, decoder_from}
+use Rattle.port.specs.Step.{heard_of}
+use Rattle.mixer.proofs.Laws.{full, Upto, none_yet, as_it_stood, one_more, all_ports}
+use Rattle.mixer.proofs.Laws.{rls_length, rhs_length, rl_of_lem, rh_of_lem}
 use Rattle.mixer.proofs.hear_all.Statement.{statement}
 use Rattle.mixer.proofs.hear_all.Tie as tie
 
@@ -19,9 +19,9 @@ invariant-loop modes octets low₀ high₀ t₀ i₀ i-end low high t i =
     (i ≤ i-end)
     × (i-end ≡ length octets)
     × (length t₀ ≡ 8)
-    × Upto decoderFrom t₀ octets t i
-    × Filled (rlsFrom t₀ modes octets) (length octets) low i
-    × Filled (rhsFrom t₀ octets) (length octets) high i
+    × Upto decoder_from t₀ octets t i
+    × Filled (rls_from t₀ modes octets) (length octets) low i
+    × Filled (rhs_from t₀ octets) (length octets) high i
 
 abbrev decreases-loop : tie.decreases-loop
 decreases-loop modes octets low₀ high₀ t₀ i₀ i-end low high t i = i-end - i
@@ -43,7 +43,7 @@ module _ (c : tie.After-next invariant-loop decreases-loop) where
   high-room = omega (arith, at.loop.inv.5.long)
 
 loop-again : tie.Need-loop-preserved invariant-loop decreases-loop
-unfolding heardOf
+unfolding heard_of
 loop-again c =
     let n = c.before in
     let h = n.before.before.before in
@@ -56,11 +56,11 @@ loop-again c =
     let given : i < length a.octets.now = omega arith in
     let few : length a.octets.now ≤ length a.decoders = omega arith in
     let told : i < length a.modes.now = omega arith in
-    let stood = as-it-stood _ _ _ v.3 _ in
-    let low-long = rls-length a.decoders a.modes.now a.octets.now few p.1.0 in
-    let high-long = rhs-length a.decoders a.modes.now a.octets.now few in
-    let x = rl-of a.decoders a.modes.now a.octets.now i _ h.heard.ensures stood inside given told in
-    let y = rh-of a.decoders a.modes.now a.octets.now i _ h.heard.ensures stood inside given in (
+    let stood = as_it_stood _ _ _ v.3 _ in
+    let low-long = rls_length a.decoders a.modes.now a.octets.now few p.1.0 in
+    let high-long = rhs_length a.decoders a.modes.now a.octets.now few in
+    let x = rl_of_lem a.decoders a.modes.now a.octets.now i _ h.heard.ensures stood inside given told in
+    let y = rh_of_lem a.decoders a.modes.now a.octets.now i _ h.heard.ensures stood inside given in (
       omega arith,
       v.1,
       v.2,
@@ -82,9 +82,9 @@ returns c =
     let p = l.before.before.before.requires in
     let v = l.loop.invariant in
     let few : length a.octets.now ≤ length a.decoders = omega arith in
-    let low = full v.4 (omega arith) (omega (arith, rls-length a.decoders a.modes.now a.octets.now few p.1.0)) in
-    let high = full v.5 (omega arith) (omega (arith, rhs-length a.decoders a.modes.now a.octets.now few)) in
-    record { answer = all-ports _ _ _ v.3 (omega arith); left = λ j. (low j, high j) }
+    let low = full v.4 (omega arith) (omega (arith, rls_length a.decoders a.modes.now a.octets.now few p.1.0)) in
+    let high = full v.5 (omega arith) (omega (arith, rhs_length a.decoders a.modes.now a.octets.now few)) in
+    record { answer = all_ports _ _ _ v.3 (omega arith); left = λ j. (low j, high j) }
 
 pub hear-all-spec : {M : Type 1} → statement M
 hear-all-spec =

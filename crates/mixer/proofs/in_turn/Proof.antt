@@ -4,8 +4,8 @@ use mathlib.Core.List.{List, zip, zip_with}
 use borrow.Author.Rules.{rules}
 use lib.IntN.{ℤ}
 use Rattle.conference.specs.Sums.{mixed}
-use Rattle.conference.specs.Ports.{octetTo, coderTo, eachPort}
-use Rattle.conference.specs.Tick.{signalsTo, octetsTo, deskAfter, sumsLimited, tickLimited, ticked}
+use Rattle.conference.specs.Ports.{octet_to, coder_to, each_port}
+use Rattle.conference.specs.Tick.{signals_to, octets_to, desk_after, sums_limited, tick_limited, ticked}
 use Rattle.mixer.proofs.in_turn.Statement.{statement}
 use Rattle.mixer.proofs.in_turn.Tie as tie
 
@@ -15,7 +15,7 @@ hear-all-requires c κs =
     (p.0, (p.1.0, (p.1.1.0, p.1.1.1.0)))
 
 returns : tie.Need-returns
-unfolding ticked tickLimited deskAfter octetsTo signalsTo
+unfolding ticked tick_limited desk_after octets_to signals_to
 returns c =
     let s = c.before.before.before.before in
     let h = s.before.before.before.before.before.before in
@@ -23,8 +23,8 @@ returns c =
     let heard = h.hear-all.ensures in
     let sent = s.send-all.ensures in
     let signals = ap (λ (l : List ℤ × List ℤ). zip (mixed l.0) (mixed l.1)) heard.left in
-    let coders = (λ j. (sent.answer j).coders) ∙ ap (eachPort coderTo desk.coders) signals in
-    let count = (λ j. (sent.answer j).limited) ∙ ap (λ (l : List ℤ × List ℤ). sumsLimited l.0 l.1) heard.left in
+    let coders = (λ j. (sent.answer j).coders) ∙ ap (each_port coder_to desk.coders) signals in
+    let count = (λ j. (sent.answer j).limited) ∙ ap (λ (l : List ℤ × List ℤ). sums_limited l.0 l.1) heard.left in
     record {
       answer =
           c.answer.ensures
@@ -34,7 +34,7 @@ returns c =
             limited = count i;
             next = record { ports = desk.ports; coders = coders i; decoders = heard.answer i };
           };
-      left = sent.left ∙ ap (zip_with octetTo desk.coders) signals;
+      left = sent.left ∙ ap (zip_with octet_to desk.coders) signals;
     }
 
 pub in-turn-spec : {M : Type 1} → statement M

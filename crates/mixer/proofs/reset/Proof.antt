@@ -3,17 +3,17 @@ use mathlib.Core.Path.{◌≡◌, refl, sym, ap, ◌∙◌}
 use mathlib.Core.Bool.{Bool, true, false, cond}
 use Prim.Native.Nat.{ℕ}
 use lib.ListN.{replicate}
-use Rattle.g722.specs.Records.{resetCoder, resetDecoder}
+use Rattle.g722.specs.Records.{reset_coder, reset_decoder}
 use Rattle.g722.specs.declared.Coder.{Coder}
 use Rattle.g722.specs.declared.Decoder.{Decoder}
-use Rattle.conference.specs.Tick.{unseated, resetDesk, resetCall}
+use Rattle.conference.specs.Tick.{unseated, reset_desk, reset_call}
 use Rattle.conference.specs.declared.Ticked.{Ticked}
 use Rattle.mixer.proofs.reset.Statement.{statement}
 use Rattle.mixer.proofs.reset.Tie as tie
 
 -- the answer, by what the three calls give
 answered : (number ports : ℕ) (t : Bool) {c : Coder} {d : Decoder} {u : Bool} {a : Ticked}
-    → c ≡ resetCoder → d ≡ resetDecoder → u ≡ unseated ports → u ≡ t → cond t 9 0 ≡ number
+    → c ≡ reset_coder → d ≡ reset_decoder → u ≡ unseated ports → u ≡ t → cond t 9 0 ≡ number
     → a
     ≡ record {
       number = number;
@@ -21,8 +21,8 @@ answered : (number ports : ℕ) (t : Bool) {c : Coder} {d : Decoder} {u : Bool} 
       limited = 0;
       next = record { ports = ports; coders = replicate 8 c; decoders = replicate 8 d };
     }
-    → a ≡ resetCall ports
-unfolding resetCall resetDesk
+    → a ≡ reset_call ports
+unfolding reset_call reset_desk
 answered number ports t c≡ d≡ u≡ t≡ n≡ a≡ =
     let n = sym n≡ ∙ ap (λ (b : Bool). cond b 9 0) (sym t≡ ∙ u≡) in
     a≡

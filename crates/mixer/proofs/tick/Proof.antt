@@ -6,15 +6,15 @@ use borrow.Author.Rules.{rules}
 use borrow.Author.Tests.{not-true, not-false}
 use lib.ListN.{length}
 use Rattle.laws.specs.Outcome.{does}
-use Rattle.conference.specs.Tick.{unseated, uneven, anyAbove, ticked}
-use Rattle.conference.specs.Cases.{seated, even, tick-9, tick-3, tick-1, tick-2, tick-0}
+use Rattle.conference.specs.Tick.{unseated, uneven, any_above, ticked}
+use Rattle.conference.specs.Cases.{seated, even, tick_9, tick_3, tick_1, tick_2, tick_0}
 use Rattle.mixer.proofs.tick.Statement.{statement}
 use Rattle.mixer.proofs.tick.Tie as tie
 
 returns : tie.Need-returns
 returns c =
     let t = c.before in
-    does (tick-9 _ _ _ _ (sym t.before.before.before.before.unseated.ensures ∙ t.if1.true)) c.answer.ensures refl
+    does (tick_9 _ _ _ _ (sym t.before.before.before.before.unseated.ensures ∙ t.if1.true)) c.answer.ensures refl
 
 -- past the first test
 two-to-eight : (e : tie.Else1)
@@ -24,7 +24,7 @@ two-to-eight e = sym e.before.before.before.before.unseated.ensures ∙ e.if1.fa
 returns-2 : tie.Need-returns-2
 returns-2 c =
     let t = c.before in
-    does (tick-3 _ _ _ _ (two-to-eight t.before) (sym t.before.before.before.before.uneven.ensures ∙ t.if2.true))
+    does (tick_3 _ _ _ _ (two-to-eight t.before) (sym t.before.before.before.before.uneven.ensures ∙ t.if2.true))
     c.answer2.ensures refl
 
 -- past the second
@@ -37,12 +37,12 @@ returns-3 : tie.Need-returns-3
 returns-3 c =
     let t = c.before in
     let e = t.before in
-    does (tick-1 _ _ _ _ (two-to-eight e.before) (one_each e) (sym e.before.before.before.any-above.ensures ∙ t.if3.true))
+    does (tick_1 _ _ _ _ (two-to-eight e.before) (one_each e) (sym e.before.before.before.any-above.ensures ∙ t.if3.true))
     c.answer3.ensures refl
 
 -- past the third
 none_above : (e : tie.Else3)
-    → anyAbove e.before.before.before.before.before.before.before.before.before.before.args.modes.now ≡ false
+    → any_above e.before.before.before.before.before.before.before.before.before.before.args.modes.now ≡ false
 none_above e = sym e.before.before.before.before.any-above.ensures ∙ e.if3.false
 
 returns-4 : tie.Need-returns-4
@@ -50,7 +50,7 @@ returns-4 c =
     let t = c.before in
     let e = t.before in
     let broken = sym e.before.before.before.good-ports.ensures ∙ not-true _ t.if4.true in
-    does (tick-2 _ _ _ _ (two-to-eight e.before.before) (one_each e.before) (none_above e) broken) c.answer4.ensures refl
+    does (tick_2 _ _ _ _ (two-to-eight e.before.before) (one_each e.before) (none_above e) broken) c.answer4.ensures refl
 
 run-requires : tie.Need-run-requires
 run-requires c κs =
@@ -66,7 +66,7 @@ returns-5 c =
     let f = r.before.before in
     let e = f.before in
     let good = sym e.before.before.before.good-ports.ensures ∙ not-false _ f.if4.false in
-    does (tick-0 _ _ _ _ (two-to-eight e.before.before) (one_each e.before) (none_above e) good)
+    does (tick_0 _ _ _ _ (two-to-eight e.before.before) (one_each e.before) (none_above e) good)
     r.run.ensures.answer r.run.ensures.left
 
 pub tick-spec : {M : Type 1} → statement M

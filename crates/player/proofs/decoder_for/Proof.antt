@@ -1,21 +1,21 @@
 -- `player::decoder_for` meets its contract: the definition makes the same tests.
-use Rattle.playing.specs.Play.{afresh, decoderFor}
+use Rattle.playing.specs.Play.{afresh, decoder_for}
 use borrow.Author.Rules.{rules}
 use Rattle.player.proofs.decoder_for.Statement.{statement}
 use Rattle.player.proofs.decoder_for.Tie as tie
 
 returns : tie.Need-returns
-unfolding decoderFor afresh
+unfolding decoder_for afresh
 returns c = rw c.before.if1.true c.reset.ensures
 
 returns-2 : tie.Need-returns-2
-unfolding decoderFor afresh
+unfolding decoder_for afresh
 returns-2 c =
     let t = c.before.before in
     rw t.before.if1.false (rw (← t.begins.ensures, c.before.if2.true) c.reset2.ensures)
 
 returns-3 : tie.Need-returns-3
-unfolding decoderFor afresh
+unfolding decoder_for afresh
 returns-3 c =
     let t = c.before.before in
     rw t.before.if1.false (rw (← t.begins.ensures, c.before.if2.false))

@@ -9,8 +9,8 @@ use lib.Seq.{length-take-le}
 use borrow.Author.Tests.{not-true, not-false}
 use Rattle.laws.specs.Back.{back16}
 use Rattle.laws.specs.Outcome.{does}
-use Rattle.playing.specs.Played.{Bounds, play-unread, play-narrow, play-broken}
-use Rattle.player.proofs.Laws.{bounds, ready, played, as-reported}
+use Rattle.playing.specs.Played.{Bounds, play_unread, play_narrow, play_broken}
+use Rattle.player.proofs.Laws.{bounds, ready, played, as_reported}
 use borrow.Author.Rules.{rules}
 use Rattle.player.proofs.play.Statement.{statement}
 use Rattle.player.proofs.play.Tie as tie
@@ -18,7 +18,7 @@ use Rattle.player.proofs.play.Tie as tie
 returns : tie.Need-returns
 returns c =
     let r = c.before.before.before in
-    does (play-unread _ _ _ _ r.read.ensures c.before.if1.true) c.not-played.ensures refl
+    does (play_unread _ _ _ _ r.read.ensures c.before.if1.true) c.not-played.ensures refl
 
 -- the block's bounds
 within : (c : tie.Else1) → Bounds c.before.before.before.before.args.b.now c.before.before.read.result
@@ -42,14 +42,14 @@ mul-size c = omega (arith, (within c).says.count_most)
 returns-2 : tie.Need-returns-2
 returns-2 c =
     let e = c.before.before in
-    does (play-narrow _ _ _ _ e.before.before.read.ensures e.if1.false (omega arith)) c.not-played2.ensures refl
+    does (play_narrow _ _ _ _ e.before.before.read.ensures e.if1.false (omega arith)) c.not-played2.ensures refl
 
 returns-3 : tie.Need-returns-3
 returns-3 c =
     let f = c.before.before.before in
     let e = f.before in
     let broken = sym c.before.before.good-decoder.ensures ∙ not-true _ c.before.if3.true in
-    does (play-broken _ _ _ _ e.before.before.read.ensures e.if1.false (roomy f) broken) c.not-played3.ensures refl
+    does (play_broken _ _ _ _ e.before.before.read.ensures e.if1.false (roomy f) broken) c.not-played3.ensures refl
 
 add-heard-and-joined : tie.Need-overflow-add-heard-and-joined
 add-heard-and-joined c = omega (arith, (within c.before.before.before.before).says.count_most)
@@ -72,10 +72,10 @@ heard-and-joined-requires c κs =
 
 slice-copy-out-first : tie.Need-slice-copy-out-first
 slice-copy-out-first c =
-    omega (arith, (within c.before.before.before.before.before.before.before.before).says.count-least, long c)
+    omega (arith, (within c.before.before.before.before.before.before.before.before).says.count_least, long c)
 
 sub-last : tie.Need-overflow-sub-last
-sub-last c = omega (arith, (within c.before.before.before.before.before.before.before.before.before).says.count-least)
+sub-last c = omega (arith, (within c.before.before.before.before.before.before.before.before.before).says.count_least)
 
 mul-last : tie.Need-overflow-mul-last
 mul-last c = omega (arith, (within c.before.before.before.before.before.before.before.before.before).says.count_most)
@@ -83,7 +83,7 @@ mul-last c = omega (arith, (within c.before.before.before.before.before.before.b
 slice-copy-out-last : tie.Need-slice-copy-out-last
 slice-copy-out-last c =
     let t = c.before in
-    omega (arith, (within t.before.before.before.before.before.before.before.before).says.count-least, long t)
+    omega (arith, (within t.before.before.before.before.before.before.before.before).says.count_least, long t)
 
 returns-4 : tie.Need-returns-4
 returns-4 c =
@@ -95,7 +95,7 @@ returns-4 c =
     let good = sym s.before.good-decoder.ensures ∙ not-false _ s.if3.false in
     let d = t.before.before.before.before.decoder-for.ensures in
     played _ _ e.before.before.read.ensures e.if1.false _ _ (roomy f) good d t.before.heard-and-joined.ensures
-    (as-reported _ _ _ (back16 _ l.before.first.given) (back16 _ l.last.given))
+    (as_reported _ _ _ (back16 _ l.before.first.given) (back16 _ l.last.given))
 
 pub play-spec : {M : Type 1} → statement M
 play-spec =

@@ -1,11 +1,11 @@
 -- `player::start` meets its contract: the decoder's own reset, and no take.
-use Rattle.playing.specs.Play.{startPlayer}
+use Rattle.playing.specs.Play.{start_player}
 use borrow.Author.Rules.{rules}
 use Rattle.player.proofs.start.Statement.{statement}
 use Rattle.player.proofs.start.Tie as tie
 
 returns : tie.Need-returns
-unfolding startPlayer
+unfolding start_player
 returns c = rw c.reset.ensures
 
 pub start_spec : {M : Type 1} → statement M

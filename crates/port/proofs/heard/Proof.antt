@@ -3,22 +3,22 @@ use mathlib.Core.Path.{ap, ◌∙◌}
 use Prim.Native.Nat.{ℕ}
 use Rattle.laws.specs.Back.{back16}
 use Rattle.g722.specs.Arithmetic.{limited}
-use Rattle.g722.specs.Decoding.{rlOf, rhOf}
-use Rattle.g722.specs.Steps.{bandAfter, heardAfter}
-use Rattle.plain.specs.Step.{lowHeard, highHeard}
-use Rattle.conference.specs.Ports.{rlFrom, rhFrom, decoderFrom}
-use Rattle.port.specs.Step.{heardOf}
+use Rattle.g722.specs.Decoding.{rl_of, rh_of}
+use Rattle.g722.specs.Steps.{band_after, heard_after}
+use Rattle.plain.specs.Step.{low_heard, high_heard}
+use Rattle.conference.specs.Ports.{rl_from, rh_from, decoder_from}
+use Rattle.port.specs.Step.{heard_of}
 use Rattle.port.proofs.heard.Statement.{statement}
 use Rattle.port.proofs.heard.Tie as tie
 
 returns : tie.Need-returns
-unfolding heardOf rlFrom rhFrom decoderFrom heardAfter bandAfter lowHeard highHeard rlOf rhOf limited
+unfolding heard_of rl_from rh_from decoder_from heard_after band_after low_heard high_heard rl_of rh_of limited
 returns c =
     let h = c.before.before.before.before.before.before in
     let l = h.before in
     let f = l.before in
     let args = f.before.before.before.before.args in
-    let x = l.low-heard.ensures ∙ ap (λ (m : ℕ). lowHeard m args.d.low args.octet) f.in-force.ensures in
+    let x = l.low-heard.ensures ∙ ap (λ (m : ℕ). low_heard m args.d.low args.octet) f.in-force.ensures in
     let y = h.high-heard.ensures in
     let rl = back16 l.low-heard.result.signal.value c.before.struct_told.given.0.1 in
     let rh = back16 h.high-heard.result.signal.value c.struct-told2.given.0.1 in

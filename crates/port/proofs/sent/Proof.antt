@@ -1,21 +1,21 @@
 -- `port::sent` meets its contract, by that of both sub-band coders.
 use mathlib.Core.Path.{◌∙◌}
 use Rattle.laws.specs.Back.{back16}
-use Rattle.plain.specs.Step.{bandsCoded}
-use Rattle.conference.specs.Ports.{octetTo, coderTo}
-use Rattle.port.specs.Step.{sentOf}
+use Rattle.plain.specs.Step.{bands_coded}
+use Rattle.conference.specs.Ports.{octet_to, coder_to}
+use Rattle.port.specs.Step.{sent_of}
 use Rattle.port.proofs.sent.Statement.{statement}
 use Rattle.port.proofs.sent.Tie as tie
 
 returns : tie.Need-returns
-unfolding sentOf octetTo coderTo bandsCoded
+unfolding sent_of octet_to coder_to bands_coded
 returns c =
     let b = c.before.before.before in
     let t = b.before.before in
     let args = t.before.before.before.before.args in
     let xl = back16 args.xl.value t.struct_told.given.0.1 in
     let xh = back16 args.xh.value b.before.struct-told2.given.0.1 in
-    let e = b.bands-coded.ensures ∙ λ i. bandsCoded args.c.low args.c.high (xl i) (xh i) in
+    let e = b.bands-coded.ensures ∙ λ i. bands_coded args.c.low args.c.high (xl i) (xh i) in
     λ i.
     record {
       octet = (e i).octet;

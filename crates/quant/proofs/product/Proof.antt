@@ -4,7 +4,7 @@ use mir.Syntax.{w32}
 use mir.Val.{to_z, of_z}
 use mir.Facts.{to_z-of_z}
 use Rattle.laws.specs.Back.{widened}
-use Rattle.laws.specs.Size.{product-fits, shr-fits}
+use Rattle.laws.specs.Size.{product_fits, shr_fits}
 use Rattle.quant.specs.Unstopped.{unstopped}
 use Rattle.quant.proofs.product.Statement.{statement}
 use Rattle.quant.proofs.product.Tie as tie
@@ -16,13 +16,13 @@ second : (c : tie.After-wide2) → to_z w32 (of_z w32 c.wide2.result) ≡ c.befo
 second c = widened c.wide2.type-inv c.wide2.ensures c.before.before.ranges.b
 
 mul-result : tie.Need-overflow-mul-result
-mul-result c = rw (first c, second c) (product-fits c.before.before.ranges.a c.before.before.ranges.b)
+mul-result c = rw (first c, second c) (product_fits c.before.before.ranges.a c.before.before.ranges.b)
 
 returns : tie.Need-returns
 returns c =
     let s = c.before.before in
     let m = mul-result c in
-    rw (to_z-of_z m, to_z-of_z (shr-fits 32768 m), first c, second c) (sym (unstopped s.args.a s.args.b s.requires s.ranges.b))
+    rw (to_z-of_z m, to_z-of_z (shr_fits 32768 m), first c, second c) (sym (unstopped s.args.a s.args.b s.requires s.ranges.b))
 
 pub product-spec : {M : Type 1} → statement M
 product-spec = tie.close (tie.spec (λ c κs. tt) (λ c κs. tt) mul-result returns)

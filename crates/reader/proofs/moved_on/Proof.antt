@@ -49,7 +49,7 @@ use Rattle.reader.specs.Walk.{next_at}
 use Rattle.reader.specs.declared.Reader.{Reader}
 use Rattle.reader.specs.contracts.Reader as T
 use Rattle.reader.proofs.Reader.TheLaws as T'
-use Rattle.reader.specs.contracts.next_at as next-at
+use Rattle.reader.specs.contracts.next_at as next_at_lem
 use Rattle.reader.proofs.next_at.Symbol as next-at-def
 use Rattle.reader.proofs.next_at.Symbol.{name as #reader·next-at}
 use Rattle.reader.proofs.next_at.Met as next-at-thm
@@ -68,7 +68,7 @@ stayed = (stay_none B yes, tt)
 module _ {M : Type 1} {𝓤 : Ura M} (𝓛 : Logic 𝓤) (mem : Memory → SProp 𝓤) (run : Routine → Fun 𝓤) where
   -- the contract that the proof cites
   abbrev NextAt : Contract 𝓤
-  NextAt = triple_of 𝓛 next-at.signature (next-at.spec 𝓛 mem run)
+  NextAt = triple_of 𝓛 next_at_lem.signature (next_at_lem.spec 𝓛 mem run)
 
 module _ {M : Type 1} {𝓤 : Ura M} (𝓛 : Logic 𝓤) (mem : Memory → SProp 𝓤) (run : Routine → Fun 𝓤) (κ : Lft)
     (q : Share) (d : Reader) where
@@ -105,13 +105,13 @@ module _ {M : Type 1} {𝓤 : Ura M} (𝓛 : Logic 𝓤) (mem : Memory → SProp
   on n = record { src = d.src; at = n }
 
   -- what the callee is passed
-  abbrev passed : Vals next-at.signature (κ, tt)
+  abbrev passed : Vals next_at_lem.signature (κ, tt)
   passed = (v ∷ [], (vint w64 d.at ∷ [], tt))
 
   abbrev to : (NextAt 𝓛 mem run).Ghost
   to = (((κ, tt), (q, tt), tt, (d.src, (d.at, tt)), passed), tt)
 
-  asked : ent 𝓤 (on_entry 𝓛 next-at.signature (κ, tt) (q, tt) (d.src, (d.at, tt)) passed) ((NextAt 𝓛 mem run).pre to)
+  asked : ent 𝓤 (on_entry 𝓛 next_at_lem.signature (κ, tt) (q, tt) (d.src, (d.at, tt)) passed) ((NextAt 𝓛 mem run).pre to)
   asked = qed 𝓛 ((‵ (flft κ q) ⊛ ‵ ftrue) ∷ ‵ (owns (ShrSlice (named 0) κ u8 ∷ usize ∷ []) (d.src, (d.at, tt)) passed) ∷ []) ∵ join ! $
       frame ! $ done !
 
@@ -130,9 +130,9 @@ module _ {M : Type 1} {𝓤 : Ura M} (𝓛 : Logic 𝓤) (mem : Memory → SProp
       move ! (2 ∷ 0 ∷ []) $ use2 𝓛 (raw ((NextAt 𝓛 mem run).pre to)) asked $ frame ! $ done !)
 
   -- of the callee's `ensured`, the clause alone: it has no `&mut`, so what is said of last values is dropped
-  said : (r : ℕ) → ent 𝓤 (ensured 𝓛 next-at.ended (next-at.clauses 𝓛 mem run) (κ, tt) (d.src, (d.at, tt)) tt r)
+  said : (r : ℕ) → ent 𝓤 (ensured 𝓛 next_at_lem.ended (next_at_lem.clauses 𝓛 mem run) (κ, tt) (d.src, (d.at, tt)) tt r)
       (fact 𝓤 (r ≡ found))
-  said r = ex_e 𝓤 _ (λ ws. snd∗ 𝓤 (sem 𝓛 (lasts next-at.ended (κ, tt) (d.src, (d.at, tt)) ws)) (fact 𝓤 (r ≡ found)))
+  said r = ex_e 𝓤 _ (λ ws. snd∗ 𝓤 (sem 𝓛 (lasts next_at_lem.ended (κ, tt) (d.src, (d.at, tt)) ws)) (fact 𝓤 (r ≡ found)))
 
   -- the struct is had twice, one copy is kept whole, and in the other the number's facts take the place of at's
   exits : (n : ℕ) → n ≡ found → n < 2 ^ 64 → ent 𝓤 (⋆ 𝓛 ((‵ (flft κ q) ⊛ ‵ ftrue) ∷ ‵ Own ∷ [])) (Post (T'.lowered (on n)))
@@ -161,7 +161,7 @@ module _ {M : Type 1} {𝓤 : Ura M} (𝓛 : Logic 𝓤) (mem : Memory → SProp
         calls_at ! fm (NextAt 𝓛 mem run) known to (and_then ! (load ! (from ! (stop !)) (look ! 6 refl))
         (and_then ! (load ! (from ! (stop !)) (look ! 4 refl)) (no_more !))) (λ u.
         use1 𝓛 (later (some (λ (n : ℕ). ((‵ (flft κ q) ⊛ ‵ ftrue) ⊛ ‵ (usize.own_val n (u ∷ []))) ⊛ raw
-        (ensured 𝓛 next-at.ended (next-at.clauses 𝓛 mem run) (κ, tt) (d.src, (d.at, tt)) tt n)))) (id⊢ 𝓤 _) $ await ! tt $
+        (ensured 𝓛 next_at_lem.ended (next_at_lem.clauses 𝓛 mem run) (κ, tt) (d.src, (d.at, tt)) tt n)))) (id⊢ 𝓤 _) $ await ! tt $
         pick ! (λ n.
         split ! $ move ! (1 ∷ []) $ use1 𝓛 (raw (fact 𝓤 (n ≡ found))) (said n) $ heard ! (n ≡ found) (λ e. split ! $ move ! (1 ∷ []) $
         -- [the number; the token; what the struct owns; _5; …; _4; …; _3; …; _2; …; _1; …; room for _0; …]
@@ -205,5 +205,5 @@ moved-on-spec 𝓤 𝓛 𝓜 𝓡 =
     entered 𝓤 𝓛.H (triple_of 𝓛 moved_on.signature (moved_on.spec 𝓛 𝓜.mem 𝓡.run))
     (tables 𝓤 𝓛.H 𝓜 𝓡 code.env).C (tables 𝓤 𝓛.H 𝓜 𝓡 code.env).Λ #reader·moved-on code.function (code.unfolded 𝓤 𝓛.H 𝓜 𝓡)
     (moved-on-meets 𝓛 𝓜.mem 𝓡.run (tables_of 𝓤 𝓛.H 𝓜 (tables 𝓤 𝓛.H 𝓜 𝓡 code.env))
-    (cited 𝓤 𝓛.H (NextAt 𝓛 𝓜.mem 𝓡.run) 𝓜 𝓡 code.env #reader·next-at next-at-def.routine code.calls-reader::next-at
+    (cited 𝓤 𝓛.H (NextAt 𝓛 𝓜.mem 𝓡.run) 𝓜 𝓡 code.env #reader·next-at next-at-def.routine code.calls-reader::next_at_lem
     (next-at-thm.met 𝓤 𝓛 𝓜 𝓡)))

@@ -3,11 +3,11 @@ use mathlib.Core.Path.{◌≡◌, sym, ap, ◌∙◌}
 use Prim.Native.Nat.{ℕ, ◌+◌, ◌-◌, ◌*◌}
 use native.Mathlib.Omega.{arith}
 use lib.ListN.{take, drop, length-take, length-drop}
-use Rattle.block.specs.Calls.{readCall}
-use Rattle.block.specs.Numbers.{read-6}
+use Rattle.block.specs.Calls.{read_call}
+use Rattle.block.specs.Numbers.{read_6}
 use Rattle.block.specs.declared.BlockRead.{BlockRead}
 use Rattle.reader.specs.Walk.{stood}
-use Rattle.reader.specs.Stays.{step_end, step-short, step-whole}
+use Rattle.reader.specs.Stays.{step_end, step_short, step_whole}
 use borrow.Author.Rules.{rules}
 use Rattle.reader.proofs.step_at.Statement.{statement}
 use Rattle.reader.proofs.step_at.Tie as tie
@@ -22,8 +22,8 @@ returns-2 c =
     let from = 512 * a.at in
     let n : from + 512 - from ≡ 512 = omega arith in
     c.stood.ensures ∙ ap (λ (x : BlockRead). stood x a.at)
-    (r.read.ensures ∙ ap (λ (k : ℕ). readCall (take k (drop from a.src.now))) n)
-    ∙ sym (step-whole a.src.now a.at (omega arith))
+    (r.read.ensures ∙ ap (λ (k : ℕ). read_call (take k (drop from a.src.now))) n)
+    ∙ sym (step_whole a.src.now a.at (omega arith))
 
 returns-3 : tie.Need-returns-3
 returns-3 c = let a = c.before.before.before.before.before.args in c.ended2.ensures
@@ -34,8 +34,8 @@ returns-4 c =
     let r = c.before in
     let a = r.before.before.before.before.before.before.args in
     c.stood2.ensures ∙ ap (λ (x : BlockRead). stood x a.at)
-    (r.read2.ensures ∙ read-6 _ (λ e. omega (arith, simp (length-take, length-drop) at e)))
-    ∙ sym (step-short a.src.now a.at (omega arith) (omega arith))
+    (r.read2.ensures ∙ read_6 _ (λ e. omega (arith, simp (length-take, length-drop) at e)))
+    ∙ sym (step_short a.src.now a.at (omega arith) (omega arith))
 
 pub step-at-spec : {M : Type 1} → statement M
 step-at-spec =

@@ -14,8 +14,8 @@ bytes_of : (n : ℕ) (b octets : List ℕ) → 4 * n ≤ length b → n ≤ leng
 bytes_of n b octets h g = omega (arith, length-take-le (4 * n) b h, length-take-le n octets g)
 
 -- the first n of what a callee left, to which they were lent
-all-lent : (n : ℕ) (l last : List ℕ) → length last ≡ length (take n l) → n ≤ length l → n ≤ length (last ++ drop n l)
-all-lent n l last e h = omega (arith, length-take-le n l h, length-append last (drop n l))
+all_lent : (n : ℕ) (l last : List ℕ) → length last ≡ length (take n l) → n ≤ length l → n ≤ length (last ++ drop n l)
+all_lent n l last e h = omega (arith, length-take-le n l h, length-append last (drop n l))
 
 slice-aggregate-code : tie.Need-slice-aggregate-code
 slice-aggregate-code c = sym (length-take-le _ _ (omega arith))
@@ -31,7 +31,7 @@ code-requires c κs =
 array-share-prefix-octets : tie.Need-array-share-prefix-octets
 array-share-prefix-octets c =
     let t = c.before.code in
-    all-lent _ (replicate 8000 0) t.new.1.1.0 t.auto.1.1.0 (omega arith)
+    all_lent _ (replicate 8000 0) t.new.1.1.0 t.auto.1.1.0 (omega arith)
 
 slice-aggregate-written : tie.Need-slice-aggregate-written
 slice-aggregate-written c = sym (length-take-le _ _ (array-share-prefix-octets c.before))

@@ -4,37 +4,37 @@ use borrow.Author.Rules.{rules}
 use borrow.Author.Tests.{lt-ltb, le-ltb}
 use mathlib.Core.Path.{◌≡◌}
 use Prim.Native.Nat.{◌-◌}
-use Rattle.g722.specs.Words.{fromFive}
+use Rattle.g722.specs.Words.{from_five}
 use Rattle.words.proofs.from_five.Statement.{statement}
 use Rattle.words.proofs.from_five.Tie as tie
 
 returns : tie.Need-returns
-unfolding fromFive
+unfolding from_five
 returns c =
     let w = c.before.args.w in
     let last : 32 - w ≡ 1 = omega arith in
     simp (last, le-ltb w 2 (omega arith), le-ltb w 16 (omega arith), le-ltb w 31 (omega arith))
 
 returns-2 : tie.Need-returns-2
-unfolding fromFive
+unfolding from_five
 returns-2 c =
     let w = c.before.before.args.w in
     simp (lt-ltb w 2 (omega arith))
 
 returns-3 : tie.Need-returns-3
-unfolding fromFive
+unfolding from_five
 returns-3 c =
     let w = c.before.before.before.args.w in
     simp (le-ltb w 2 (omega arith), lt-ltb w 16 (omega arith))
 
 returns-4 : tie.Need-returns-4
-unfolding fromFive
+unfolding from_five
 returns-4 c =
     let w = c.before.before.before.before.args.w in
     simp (le-ltb w 2 (omega arith), le-ltb w 16 (omega arith), lt-ltb w 31 (omega arith))
 
 returns-5 : tie.Need-returns-5
-unfolding fromFive
+unfolding from_five
 returns-5 c =
     let w = c.before.before.before.before.args.w in
     let none : 32 - w ≡ 0 = omega arith in

@@ -4,30 +4,30 @@ use borrow.Author.Rules.{rules}
 use borrow.Author.Tests.{lt-ltb, le-ltb}
 use mathlib.Core.Path.{◌≡◌}
 use Prim.Native.Nat.{◌-◌}
-use Rattle.g722.specs.Words.{fromFour}
+use Rattle.g722.specs.Words.{from_four}
 use Rattle.words.proofs.from_four.Statement.{statement}
 use Rattle.words.proofs.from_four.Tie as tie
 
 returns : tie.Need-returns
-unfolding fromFour
+unfolding from_four
 returns c =
     let w = c.before.args.w in
     simp (lt-ltb w 1 (omega arith))
 
 returns-2 : tie.Need-returns-2
-unfolding fromFour
+unfolding from_four
 returns-2 c =
     let w = c.before.before.args.w in
     simp (le-ltb w 1 (omega arith), lt-ltb w 8 (omega arith))
 
 returns-3 : tie.Need-returns-3
-unfolding fromFour
+unfolding from_four
 returns-3 c =
     let w = c.before.before.before.args.w in
     simp (le-ltb w 1 (omega arith), le-ltb w 8 (omega arith))
 
 returns-4 : tie.Need-returns-4
-unfolding fromFour
+unfolding from_four
 returns-4 c =
     let w = c.before.before.before.args.w in
     let none : 15 - w ≡ 0 = omega arith in

@@ -4,36 +4,36 @@ use borrow.Author.Rules.{rules}
 use borrow.Author.Tests.{lt-ltb, le-ltb}
 use mathlib.Core.Path.{◌≡◌}
 use Prim.Native.Nat.{◌-◌}
-use Rattle.g722.specs.Words.{fromSix}
+use Rattle.g722.specs.Words.{from_six}
 use Rattle.words.proofs.from_six.Statement.{statement}
 use Rattle.words.proofs.from_six.Tie as tie
 
 returns : tie.Need-returns
-unfolding fromSix
+unfolding from_six
 returns c =
     let w = c.before.args.w in
     simp (lt-ltb w 4 (omega arith))
 
 returns-2 : tie.Need-returns-2
-unfolding fromSix
+unfolding from_six
 returns-2 c =
     let w = c.before.before.args.w in
     simp (le-ltb w 4 (omega arith), lt-ltb w 32 (omega arith))
 
 returns-3 : tie.Need-returns-3
-unfolding fromSix
+unfolding from_six
 returns-3 c =
     let w = c.before.before.before.args.w in
     simp (le-ltb w 4 (omega arith), le-ltb w 32 (omega arith), lt-ltb w 62 (omega arith))
 
 returns-4 : tie.Need-returns-4
-unfolding fromSix
+unfolding from_six
 returns-4 c =
     let w = c.before.before.before.before.args.w in
     simp (le-ltb w 4 (omega arith), le-ltb w 32 (omega arith), le-ltb w 62 (omega arith))
 
 returns-5 : tie.Need-returns-5
-unfolding fromSix
+unfolding from_six
 returns-5 c =
     let w = c.before.before.before.before.args.w in
     let none : 64 - w ≡ 0 = omega arith in

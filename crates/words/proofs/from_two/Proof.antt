@@ -4,24 +4,24 @@ use borrow.Author.Rules.{rules}
 use borrow.Author.Tests.{lt-ltb, le-ltb}
 use mathlib.Core.Path.{◌≡◌}
 use Prim.Native.Nat.{◌-◌}
-use Rattle.g722.specs.Words.{fromTwo}
+use Rattle.g722.specs.Words.{from_two}
 use Rattle.words.proofs.from_two.Statement.{statement}
 use Rattle.words.proofs.from_two.Tie as tie
 
 returns : tie.Need-returns
-unfolding fromTwo
+unfolding from_two
 returns c =
     let w = c.before.args.w in
     simp (lt-ltb w 2 (omega arith))
 
 returns-2 : tie.Need-returns-2
-unfolding fromTwo
+unfolding from_two
 returns-2 c =
     let w = c.before.before.args.w in
     simp (le-ltb w 2 (omega arith))
 
 returns-3 : tie.Need-returns-3
-unfolding fromTwo
+unfolding from_two
 returns-3 c =
     let w = c.before.before.args.w in
     let none : 4 - w ≡ 0 = omega arith in

@@ -4,37 +4,37 @@ use borrow.Author.Rules.{rules}
 use borrow.Author.Tests.{lt-ltb, le-ltb}
 use mathlib.Core.Path.{◌≡◌}
 use Prim.Native.Nat.{◌-◌}
-use Rattle.g722.specs.Words.{toSix}
+use Rattle.g722.specs.Words.{to_six}
 use Rattle.words.proofs.to_six.Statement.{statement}
 use Rattle.words.proofs.to_six.Tie as tie
 
 returns : tie.Need-returns
-unfolding toSix
+unfolding to_six
 returns c =
     let w = c.before.before.args.v.number in
     simp (c.before.if1.true, lt-ltb w 3 (omega arith))
 
 returns-2 : tie.Need-returns-2
-unfolding toSix
+unfolding to_six
 returns-2 c =
     let w = c.before.before.before.args.v.number in
     simp (c.before.before.if1.true, le-ltb w 3 (omega arith))
 
 returns-3 : tie.Need-returns-3
-unfolding toSix
+unfolding to_six
 returns-3 c =
     let w = c.before.before.before.args.v.number in
     let none : 34 - w ≡ 0 = omega arith in
     simp (c.before.before.if1.true, le-ltb w 3 (omega arith), none)
 
 returns-4 : tie.Need-returns-4
-unfolding toSix
+unfolding to_six
 returns-4 c =
     let w = c.before.before.args.v.number in
     simp c.before.if1.false
 
 returns-5 : tie.Need-returns-5
-unfolding toSix
+unfolding to_six
 returns-5 c =
     let w = c.before.before.args.v.number in
     let none : 62 - w ≡ 0 = omega arith in

@@ -3,31 +3,31 @@ use native.Mathlib.Omega.{arith}
 use borrow.Author.Rules.{rules}
 use mathlib.Core.Path.{◌≡◌}
 use Prim.Native.Nat.{◌-◌}
-use Rattle.g722.specs.Words.{toTwo}
+use Rattle.g722.specs.Words.{to_two}
 use Rattle.words.proofs.to_two.Statement.{statement}
 use Rattle.words.proofs.to_two.Tie as tie
 
 returns : tie.Need-returns
-unfolding toTwo
+unfolding to_two
 returns c =
     let w = c.before.before.args.v.number in
     simp c.before.if1.true
 
 returns-2 : tie.Need-returns-2
-unfolding toTwo
+unfolding to_two
 returns-2 c =
     let w = c.before.before.args.v.number in
     let none : 2 - w ≡ 0 = omega arith in
     simp (c.before.if1.true, none)
 
 returns-3 : tie.Need-returns-3
-unfolding toTwo
+unfolding to_two
 returns-3 c =
     let w = c.before.before.args.v.number in
     simp c.before.if1.false
 
 returns-4 : tie.Need-returns-4
-unfolding toTwo
+unfolding to_two
 returns-4 c =
     let w = c.before.before.args.v.number in
     let none : 4 - w ≡ 0 = omega arith in

@@ -1,12 +1,12 @@
 -- `big_endian::four_at` meets its contract: beyond the end stands 0.
 use mathlib.Core.Path.{sym}
 use borrow.Author.Rules.{rules}
-use Rattle.big_endian.specs.Numbers.{four-beyond}
+use Rattle.big_endian.specs.Numbers.{four_beyond}
 use Rattle.big_endian.proofs.numbers.four_at.Statement.{statement}
 use Rattle.big_endian.proofs.numbers.four_at.Tie as tie
 
 returns : tie.Need-returns
-returns c = let a = c.before.before.args in sym (four-beyond a.b.now a.i c.if1.true)
+returns c = let a = c.before.before.args in sym (four_beyond a.b.now a.i c.if1.true)
 
 returns-2 : tie.Need-returns-2
 returns-2 c = search rules

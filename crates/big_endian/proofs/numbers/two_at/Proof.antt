@@ -1,12 +1,12 @@
 -- `big_endian::two_at` meets its contract: beyond the end stands 0.
 use mathlib.Core.Path.{sym}
 use borrow.Author.Rules.{rules}
-use Rattle.big_endian.specs.Numbers.{two-beyond}
+use Rattle.big_endian.specs.Numbers.{two_beyond}
 use Rattle.big_endian.proofs.numbers.two_at.Statement.{statement}
 use Rattle.big_endian.proofs.numbers.two_at.Tie as tie
 
 returns : tie.Need-returns
-returns c = let a = c.before.before.args in sym (two-beyond a.b.now a.i c.if1.true)
+returns c = let a = c.before.before.args in sym (two_beyond a.b.now a.i c.if1.true)
 
 returns-2 : tie.Need-returns-2
 returns-2 c = search rules

@@ -4,8 +4,8 @@ use Prim.Native.Nat.{ℕ, ◌-◌, ◌≤◌, zero-le}
 use native.Mathlib.Omega.{arith}
 use lib.ListN.{length, length-set}
 use Rattle.laws.specs.Back.{got16}
-use Rattle.big_endian.specs.Bytes.{pcmSamples, loaded, loadCall}
-use Rattle.big_endian.proofs.Turns.{load-turn}
+use Rattle.big_endian.specs.Bytes.{pcm_samples, loaded, load_call}
+use Rattle.big_endian.proofs.Turns.{load_turn}
 use Rattle.big_endian.proofs.samples.load.Statement.{statement}
 use Rattle.big_endian.proofs.samples.load.Tie as tie
 
@@ -16,7 +16,7 @@ abbrev decreases-loop : tie.decreases-loop
 decreases-loop bytes samples₀ n i₀ samples i = n - i
 
 loop-holds : tie.Need-loop-init invariant-loop decreases-loop
-unfolding loaded pcmSamples
+unfolding loaded pcm_samples
 loop-holds c = (zero-le, refl, refl)
 
 loop-again : tie.Need-loop-preserved invariant-loop decreases-loop
@@ -25,14 +25,14 @@ loop-again c =
     let b = t.before.before.before.args.bytes.now in
     let s = t.before.before.before.args.samples.now in
     let i = t.loop.i in
-    let turn = load-turn i b s (omega arith) (omega arith) t.loop.invariant.2 (got16 c.sample ∙ c.sample.ensures) in
+    let turn = load_turn i b s (omega arith) (omega arith) t.loop.invariant.2 (got16 c.sample ∙ c.sample.ensures) in
     (omega arith, simp length-set t.loop.invariant.1, turn)
 
 same_length : tie.Need-same-length invariant-loop decreases-loop
 same_length c = c.before.loop.invariant.1
 
 returns : tie.Need-returns invariant-loop decreases-loop
-unfolding loadCall loaded
+unfolding load_call loaded
 returns c =
     let t = c.before in
     let a = t.before.before.before.args in

@@ -5,8 +5,8 @@ use native.Mathlib.Omega.{arith}
 use lib.IntN.{pos}
 use lib.ListN.{length, get_or, length-set}
 use Rattle.laws.specs.Back.{back16}
-use Rattle.big_endian.specs.Bytes.{high_of, low_of, pcmBytes, stored, storeCall}
-use Rattle.big_endian.proofs.Turns.{store-turn}
+use Rattle.big_endian.specs.Bytes.{high_of, low_of, pcm_bytes, stored, store_call}
+use Rattle.big_endian.proofs.Turns.{store_turn}
 use Rattle.big_endian.proofs.samples.store.Statement.{statement}
 use Rattle.big_endian.proofs.samples.store.Tie as tie
 
@@ -17,7 +17,7 @@ abbrev decreases-loop : tie.decreases-loop
 decreases-loop samples bytes₀ n i₀ bytes i = n - i
 
 loop-holds : tie.Need-loop-init invariant-loop decreases-loop
-unfolding stored pcmBytes
+unfolding stored pcm_bytes
 loop-holds c = (zero-le, refl, refl)
 
 loop-again : tie.Need-loop-preserved invariant-loop decreases-loop
@@ -29,14 +29,14 @@ loop-again c =
     let x = back16 (get_or s i (pos 0)) c.before.before.x.given in
     let high = c.before.high.ensures ∙ ap high_of x in
     let low = c.low.ensures ∙ ap low_of x in
-    let turn = store-turn i b s (omega arith) (omega arith) t.loop.invariant.2 high low in
+    let turn = store_turn i b s (omega arith) (omega arith) t.loop.invariant.2 high low in
     (omega arith, simp length-set t.loop.invariant.1, turn)
 
 same_length : tie.Need-same-length invariant-loop decreases-loop
 same_length c = c.before.loop.invariant.1
 
 returns : tie.Need-returns invariant-loop decreases-loop
-unfolding storeCall stored
+unfolding store_call stored
 returns c =
     let t = c.before in
     let a = t.before.before.before.args in

@@ -2,8 +2,8 @@
 use native.Mathlib.Omega.{arith}
 use borrow.Author.Rules.{rules}
 use Rattle.laws.specs.Outcome.{becomes}
-use Rattle.sweep.specs.Block.{is_block, coded-block}
-use Rattle.coder.specs.ByBand.{coded-by-band}
+use Rattle.sweep.specs.Block.{is_block, coded_block_lem}
+use Rattle.coder.specs.ByBand.{coded_by_band}
 use Rattle.coder.proofs.bands.bands_all.Statement.{statement}
 use Rattle.coder.proofs.bands.bands_all.Tie as tie
 
@@ -16,11 +16,11 @@ returns c =
     let n = s.requires.1.1 in
     let a = s.args in
     let low =
-    becomes (coded-block _ _ a.xl.now a.octets.now (is_block _ _ _ s.requires.0 n.0 n.1.1.0)) l.code-band.ensures in
+    becomes (coded_block_lem _ _ a.xl.now a.octets.now (is_block _ _ _ s.requires.0 n.0 n.1.1.0)) l.code-band.ensures in
     let high =
-    becomes (coded-block _ _ a.xh.now a.words.now (is_block _ _ _ (omega (arith, s.requires)) (omega (arith, s.requires)) n.1.1.1))
+    becomes (coded_block_lem _ _ a.xh.now a.words.now (is_block _ _ _ (omega (arith, s.requires)) (omega (arith, s.requires)) n.1.1.1))
     h.code-band2.ensures in
-    coded-by-band _ _ _ _ (omega (arith, s.requires)) low.answer low.left high.answer high.left p.put-together.ensures
+    coded_by_band _ _ _ _ (omega (arith, s.requires)) low.answer low.left high.answer high.left p.put-together.ensures
 
 pub bands-all-spec : {M : Type 1} → statement M
 bands-all-spec =

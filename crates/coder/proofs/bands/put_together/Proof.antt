@@ -4,7 +4,7 @@ use mathlib.Core.List.{List, ◌++◌, zip_with}
 use Prim.Native.Nat.{ℕ, ◌≤◌, ◌-◌, ◌+◌, ◌<◌, zero-le}
 use native.Mathlib.Omega.{arith}
 use lib.ListN.{length, take, drop, length-set, drop_of_length-le}
-use Rattle.laws.specs.Turns.{drop-one, put-place, put_all}
+use Rattle.laws.specs.Turns.{drop_one, put_place, put_all}
 use Rattle.coder.specs.ByBand.{together}
 use Rattle.coder.proofs.bands.put_together.Statement.{statement}
 use Rattle.coder.proofs.bands.put_together.Tie as tie
@@ -32,11 +32,11 @@ loop-again c =
     let v = lp.loop.invariant in
     let in_words : i < length words = omega arith in
     let inside : i < length octets = omega arith in
-    let rest = ap₂ (zip_with together) (drop-one words i 0 in_words) (drop-one octets i 0 inside) in (
+    let rest = ap₂ (zip_with together) (drop_one words i 0 in_words) (drop_one octets i 0 inside) in (
       omega arith,
       v.1,
       length-set octets i _ ∙ v.2,
-      put-place (zip_with together (drop (i + 1) words)) octets i _ inside
+      put_place (zip_with together (drop (i + 1) words)) octets i _ inside
           ∙ ap (λ (o : List ℕ). take i octets ++ o) (sym rest)
           ∙ v.3,
     )

@@ -6,14 +6,14 @@ use borrow.Author.Tests.{not-true, not-false, eq-eqb, ne_eqb, lt-ltb, le-ltb}
 use Prim.Native.Nat.{ℕ, min}
 use lib.Dec.{eqb}
 use lib.ListN.{length}
-use Rattle.laws.specs.Both.{left-true, right-true}
+use Rattle.laws.specs.Both.{left_true, right_true}
 use Rattle.laws.specs.Outcome.{does}
-use Rattle.facts.specs.Lengths.{matched, few-pairs}
-use Rattle.facts.specs.Range.{none-bad-pair, some-bad-pair}
-use Rattle.g722.specs.Records.{allInRange, goodDecoder}
+use Rattle.facts.specs.Lengths.{matched, few_pairs}
+use Rattle.facts.specs.Range.{none_bad_pair, some_bad_pair}
+use Rattle.g722.specs.Records.{all_in_range, good_decoder}
 use Rattle.g722.specs.Coding.{misfit}
-use Rattle.g722.specs.Steps.{firstBadPair, joined}
-use Rattle.g722.specs.InSteps.{join-3, join-2, join-4, join-0}
+use Rattle.g722.specs.Steps.{first_bad_pair, joined}
+use Rattle.g722.specs.InSteps.{join_3, join_2, join_4, join_0}
 use Rattle.decoder.proofs.samples.join.Statement.{statement}
 use Rattle.decoder.proofs.samples.join.Tie as tie
 
@@ -21,14 +21,14 @@ returns : tie.Need-returns
 returns c =
     let t = c.before in
     let unfit = sym t.before.before.misfit.ensures ∙ t.if1.true in
-    does (join-3 _ _ _ _ (rw unfit refl)) c.refused.ensures refl
+    does (join_3 _ _ _ _ (rw unfit refl)) c.refused.ensures refl
 
 returns-2 : tie.Need-returns-2
 returns-2 c =
     let t = c.before in
     let e = t.before in
     let fit = sym e.before.before.misfit.ensures ∙ e.if1.false in
-    does (join-3 _ _ _ _ (rw (fit, ne_eqb _ _ t.if2.true) refl)) c.refused2.ensures refl
+    does (join_3 _ _ _ _ (rw (fit, ne_eqb _ _ t.if2.true) refl)) c.refused2.ensures refl
 
 -- past the second test
 fits : (e : tie.Else2)
@@ -43,34 +43,34 @@ returns-3 : tie.Need-returns-3
 returns-3 c =
     let t = c.before in
     let broken = sym t.before.before.before.good-decoder.ensures ∙ not-true _ t.if3.true in
-    does (join-2 _ _ _ _ (fits t.before) broken) c.refused3.ensures refl
+    does (join_2 _ _ _ _ (fits t.before) broken) c.refused3.ensures refl
 
 -- past the third
 module _ (b : tie.After-both) where
   abbrev e : tie.Else3
   e = b.before.before.before
 
-  good : goodDecoder e.before.before.before.before.before.args.d ≡ true
+  good : good_decoder e.before.before.before.before.before.args.d ≡ true
   good = sym e.before.before.before.good-decoder.ensures ∙ not-false _ e.if3.left
 
   looked : let args = e.before.before.before.before.before.args in
-      b.both.result ≡ (allInRange args.low.now && allInRange args.high.now)
+      b.both.result ≡ (all_in_range args.low.now && all_in_range args.high.now)
   looked = b.both.ensures ∙ λ i. b.before.before.all-in-range.ensures i && b.before.all-in-range2.ensures i
 
   even : let args = e.before.before.before.before.before.args in length args.high.now ≡ length args.low.now
   even = (matched _ _ _ (fits e.before)).0
 
 returns-4 : tie.Need-returns-4
-unfolding firstBadPair
+unfolding first_bad_pair
 returns-4 c =
     let l = c.before in
     let f = l.before in
     let t = f.before.before in
     let b = t.before in
     let args = (e b).before.before.before.before.before.args in
-    let bad = some-bad-pair _ _ (even b) (sym (looked b) ∙ not-true _ t.if4.true) in
+    let bad = some_bad_pair _ _ (even b) (sym (looked b) ∙ not-true _ t.if4.true) in
     let index = l.lesser.ensures ∙ λ i. min (f.before.first-bad.ensures i) (f.first-bad2.ensures i) in
-    does (join-4 _ _ _ _ (fits (e b).before) (good b) (lt-ltb _ _ bad))
+    does (join_4 _ _ _ _ (fits (e b).before) (good b) (lt-ltb _ _ bad))
     (c.refused4.ensures ∙ ap (λ (n : ℕ). record { number = 4; index = n; limited = 0; next = args.d }) index) refl
 
 returns-5 : tie.Need-returns-5
@@ -79,8 +79,8 @@ returns-5 c =
     let r = c.before in
     let n = r.before.before in
     let b = n.before in
-    let clean = none-bad-pair _ _ (even b) (sym (looked b) ∙ not-false _ n.if4.false) in
-    does (join-0 _ _ _ _ (fits (e b).before) (good b) (le-ltb _ _ clean))
+    let clean = none_bad_pair _ _ (even b) (sym (looked b) ∙ not-false _ n.if4.false) in
+    does (join_0 _ _ _ _ (fits (e b).before) (good b) (le-ltb _ _ clean))
     r.join-all.ensures.answer r.join-all.ensures.left
 
 join-all-requires : tie.Need-join-all-requires
@@ -88,12 +88,12 @@ join-all-requires c κs =
     let n = c.before in
     let b = n.before in
     let args = (e b).before.before.before.before.before.args in
-    let low = allInRange args.low.now in
-    let high = allInRange args.high.now in
+    let low = all_in_range args.low.now in
+    let high = all_in_range args.high.now in
     let f = fits (e b).before in
     let p = matched _ _ _ f in
     let clean = sym (looked b) ∙ not-false _ n.if4.false in
-    (few-pairs _ _ _ f, (p.0, (p.1, (good b, (left-true low high clean, right-true low high clean)))))
+    (few_pairs _ _ _ f, (p.0, (p.1, (good b, (left_true low high clean, right_true low high clean)))))
 
 pub join-spec : {M : Type 1} → statement M
 join-spec =

@@ -6,11 +6,11 @@ use lib.ListN.{length, take, drop, length-take}
 use lib.Seq.{take_all}
 use borrow.Rule.Slice.PartMut.{mid_len}
 use Rattle.laws.specs.Outcome.{Does, does}
-use Rattle.laws.specs.Blocks.{part-long, part-put}
-use Rattle.facts.specs.Range.{range-take, range-drop}
-use Rattle.facts.specs.Blocks.{done, joined-more, joined-next-good, joined-few}
+use Rattle.laws.specs.Blocks.{part_long, part_put}
+use Rattle.facts.specs.Range.{range_take, range_drop}
+use Rattle.facts.specs.Blocks.{done, joined_more, joined_next_good, joined_few}
 use Rattle.g722.specs.Arithmetic.{overloads}
-use Rattle.g722.specs.Steps.{joinedInFull, joinedOf, pairsAfter, joinedAfter, joined}
+use Rattle.g722.specs.Steps.{joined_in_full, joined_of, pairs_after, joined_after, joined}
 use Rattle.decoder.proofs.samples.join_all.Statement.{statement}
 use Rattle.decoder.proofs.samples.join_all.Tie as tie
 
@@ -24,7 +24,7 @@ abbrev decreases-loop : tie.decreases-loop
 decreases-loop low high samples₀ s₀ limited₀ at₀ samples s limited at = length low - at
 
 loop-holds : tie.Need-loop-init invariant-loop decreases-loop
-unfolding joined joinedOf joinedInFull joinedAfter pairsAfter overloads
+unfolding joined joined_of joined_in_full joined_after pairs_after overloads
 loop-holds c = (zero-le, refl, record { answer = refl; left = refl })
 
 -- where a block ends, which is within the signals, and its samples within theirs
@@ -66,10 +66,10 @@ join-block-requires c κs =
     let k = mid_len (2 * at) (2 * to l) (lp l).loop.samples (room l) in
     let g = (start l).requires.1.1.1 in
     let good =
-    joined-next-good _ (take at low) (take at high) (lp l).loop.invariant.2 g.0 (range-take at low g.1.0)
-    (range-take at high g.1.1) in
-    let rl = range-take (to l - at) (drop at low) (range-drop at low g.1.0) in
-    let rh = range-take (to l - at) (drop at high) (range-drop at high g.1.1) in
+    joined_next_good _ (take at low) (take at high) (lp l).loop.invariant.2 g.0 (range_take at low g.1.0)
+    (range_take at high g.1.1) in
+    let rl = range_take (to l - at) (drop at low) (range_drop at low g.1.0) in
+    let rh = range_take (to l - at) (drop at high) (range_drop at high g.1.1) in
     (omega (arith, l.lesser.ensures, n), (omega (arith, n, m), (omega (arith, n, k), (good, (rl, rh)))))
 
 add-limited : tie.Need-overflow-add-limited invariant-loop decreases-loop
@@ -78,8 +78,8 @@ add-limited c =
     let l = b.before.before.before.before in
     let low = (start l).args.low.now in
     let high = (start l).args.high.now in
-    let more = joined-more _ low high (on l) (even l) (lp l).loop.invariant.2 b.join-block.ensures in
-    omega (arith, joined-few _ (take (to l) low) (take (to l) high) more, length-take (to l) low, (start l).requires.0)
+    let more = joined_more _ low high (on l) (even l) (lp l).loop.invariant.2 b.join-block.ensures in
+    omega (arith, joined_few _ (take (to l) low) (take (to l) high) more, length-take (to l) low, (start l).requires.0)
 
 loop-again : tie.Need-loop-preserved invariant-loop decreases-loop
 loop-again c =
@@ -90,10 +90,10 @@ loop-again c =
     let y = b.join-block.new.1.1.1.0 in
     let same = b.join-block.auto.1.1.1.0 in
     let a = (start l).args in
-    let more = joined-more _ a.low.now a.high.now (on l) (even l) (lp l).loop.invariant.2 b.join-block.ensures in (
+    let more = joined_more _ a.low.now a.high.now (on l) (even l) (lp l).loop.invariant.2 b.join-block.ensures in (
       within l,
-      part-long twice samples y same ∙ (lp l).loop.invariant.1,
-      record { answer = more.answer; left = part-put twice samples y same (room l) ∙ more.left },
+      part_long twice samples y same ∙ (lp l).loop.invariant.1,
+      record { answer = more.answer; left = part_put twice samples y same (room l) ∙ more.left },
     )
 
 same_length : tie.Need-same-length invariant-loop decreases-loop

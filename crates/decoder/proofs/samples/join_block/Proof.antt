@@ -4,25 +4,25 @@ use native.Mathlib.Omega.{arith}
 use borrow.Author.Rules.{rules}
 use lib.ListN.{length}
 use Rattle.laws.specs.Outcome.{becomes}
-use Rattle.g722.specs.Steps.{joined, joinedAfter}
+use Rattle.g722.specs.Steps.{joined, joined_after}
 use Rattle.facts.specs.Signals.{parts}
-use Rattle.mirror.specs.Fitting.{block-fits, PairsInRange, join-fits}
+use Rattle.mirror.specs.Fitting.{block_fits_lem, PairsInRange, join_fits}
 use Rattle.decoder.proofs.samples.join_block.Statement.{statement}
 use Rattle.decoder.proofs.samples.join_block.Tie as tie
 
 returns : tie.Need-returns
-unfolding joined joinedAfter
+unfolding joined joined_after
 returns c =
     let j = c.before.before.before in
     let s = j.before.before.before.before.before in
     let a = s.args in
     let n = s.requires.1.1.1 in
     let good = parts a.d n.0 in
-    let fits = block-fits (length a.samples.now) (length a.low.now) (length a.high.now) in
+    let fits = block_fits_lem (length a.samples.now) (length a.low.now) (length a.high.now) in
     let whole = fits (omega (arith, s.requires)) (omega (arith, s.requires)) (omega (arith, s.requires)) in
     let range : PairsInRange a.d.past a.low.now a.high.now =
-    record { past-rl = good.rl; past-rh = good.rh; lows = n.1.0; highs = n.1.1 } in
-    let q = becomes (join-fits _ _ _ a.samples.now whole range) j.join.ensures in
+    record { past_rl = good.rl; past_rh = good.rh; lows = n.1.0; highs = n.1.1 } in
+    let q = becomes (join_fits _ _ _ a.samples.now whole range) j.join.ensures in
     record {
       answer =
           c.done.ensures

@@ -7,23 +7,23 @@ use borrow.Author.Tests.{not-true, not-false, lt-ltb, le-ltb}
 use Prim.Native.Nat.{ℕ}
 use lib.ListN.{length}
 use Rattle.laws.specs.Outcome.{does}
-use Rattle.facts.specs.Lengths.{paired, few-octets}
-use Rattle.g722.specs.Records.{goodDecoder}
+use Rattle.facts.specs.Lengths.{paired, few_octets}
+use Rattle.g722.specs.Records.{good_decoder}
 use Rattle.g722.specs.Steps.{unpaired, heard}
-use Rattle.g722.specs.InSteps.{hear-1, hear-3, hear-2, hear-0}
+use Rattle.g722.specs.InSteps.{hear_1, hear_3, hear_2, hear_0}
 use Rattle.decoder.proofs.signals.hear.Statement.{statement}
 use Rattle.decoder.proofs.signals.hear.Tie as tie
 
 returns : tie.Need-returns
 returns c =
     let told = c.before.before.before.before.before.args.told in
-    does (hear-1 _ _ _ _ _ (lt-ltb 3 told (omega arith))) c.refused.ensures refl
+    does (hear_1 _ _ _ _ _ (lt-ltb 3 told (omega arith))) c.refused.ensures refl
 
 returns-2 : tie.Need-returns-2
 returns-2 c =
     let t = c.before in
     let told = t.before.before.before.before.before.args.told in
-    does (hear-3 _ _ _ _ _ (le-ltb 3 told (omega arith)) (sym t.before.before.before.unpaired.ensures ∙ t.if2.true))
+    does (hear_3 _ _ _ _ _ (le-ltb 3 told (omega arith)) (sym t.before.before.before.unpaired.ensures ∙ t.if2.true))
     c.refused2.ensures refl
 
 -- past the second test
@@ -37,11 +37,11 @@ returns-3 c =
     let t = c.before in
     let broken = sym t.before.before.before.good-decoder.ensures ∙ not-true _ t.if3.true in
     let told = t.before.before.before.before.before.before.args.told in
-    does (hear-2 _ _ _ _ _ (le-ltb 3 told (omega arith)) (fits t.before) broken)
+    does (hear_2 _ _ _ _ _ (le-ltb 3 told (omega arith)) (fits t.before) broken)
     c.refused3.ensures refl
 
 -- past the third
-good : (e : tie.Else3) → goodDecoder e.before.before.before.before.before.before.args.d ≡ true
+good : (e : tie.Else3) → good_decoder e.before.before.before.before.before.before.args.d ≡ true
 good e = sym e.before.before.before.good-decoder.ensures ∙ not-false _ e.if3.false
 
 returns-4 : tie.Need-returns-4
@@ -53,7 +53,7 @@ returns-4 c =
     let args = e.before.before.before.before.before.before.args in
     let octets = args.octets.now in
     let told = f.in-force.ensures in
-    does (hear-0 _ _ _ _ _ (le-ltb 3 args.told (omega arith)) (fits e.before) (good e))
+    does (hear_0 _ _ _ _ _ (le-ltb 3 args.told (omega arith)) (fits e.before) (good e))
     (r.hear-all.ensures.answer ∙ ap (λ (m : ℕ). (heard m args.d octets).answer) told)
     (r.hear-all.ensures.left ∙ ap (λ (m : ℕ). (heard m args.d octets).left) told)
 
@@ -62,7 +62,7 @@ hear-all-requires c κs =
     let e = c.before.before.before in
     let f = fits e.before in
     let p = paired _ _ _ f in
-    (few-octets _ _ _ f, (p.0, (p.1, good e)))
+    (few_octets _ _ _ f, (p.0, (p.1, good e)))
 
 pub hear-spec : {M : Type 1} → statement M
 hear-spec =

@@ -6,10 +6,10 @@ use lib.ListN.{length, take, length-take}
 use lib.Seq.{take_all}
 use borrow.Rule.Slice.PartMut.{mid_len}
 use Rattle.laws.specs.Outcome.{Does, does}
-use Rattle.laws.specs.Blocks.{part-long, part-put}
-use Rattle.facts.specs.Blocks.{done, heard-more, heard-next-good, heard-few}
+use Rattle.laws.specs.Blocks.{part_long, part_put}
+use Rattle.facts.specs.Blocks.{done, heard_more, heard_next_good, heard_few}
 use Rattle.g722.specs.Arithmetic.{overloads}
-use Rattle.g722.specs.Steps.{signalsOf, bandAfter, ylsOf, yhsOf, rlsOf, rhs_of, heardAfter, heard}
+use Rattle.g722.specs.Steps.{signals_of, band_after, yls_of, yhs_of, rls_of, rhs_of, heard_after, heard}
 use Rattle.decoder.proofs.signals.hear_all.Statement.{statement}
 use Rattle.decoder.proofs.signals.hear_all.Tie as tie
 
@@ -24,7 +24,7 @@ abbrev decreases-loop : tie.decreases-loop
 decreases-loop mode octets low₀ high₀ s₀ limited₀ at₀ low high s limited at = length octets - at
 
 loop-holds : tie.Need-loop-init invariant-loop decreases-loop
-unfolding heard heardAfter ylsOf yhsOf rlsOf rhs_of signalsOf bandAfter overloads
+unfolding heard heard_after yls_of yhs_of rls_of rhs_of signals_of band_after overloads
 loop-holds c = (zero-le, refl, refl, record { answer = refl; left = refl })
 
 -- where a block ends, which is within the octets and both signals
@@ -58,7 +58,7 @@ hear-block-requires c κs =
     let n = mid_len at (to l) octets (within l) in
     let low = mid_len at (to l) (lp l).loop.low (low-room l) in
     let high = mid_len at (to l) (lp l).loop.high (high-room l) in
-    let good = heard-next-good _ _ (take at octets) (lp l).loop.invariant.3 (start l).requires.1.1.1 in
+    let good = heard_next_good _ _ (take at octets) (lp l).loop.invariant.3 (start l).requires.1.1.1 in
     (omega (arith, l.lesser.ensures, n), (omega (arith, n, low), (omega (arith, n, high), good)))
 
 add-limited : tie.Need-overflow-add-limited invariant-loop decreases-loop
@@ -66,8 +66,8 @@ add-limited c =
     let b = c.before.before.before.before in
     let l = b.before.before.before.before in
     let octets = (start l).args.octets.now in
-    let more = heard-more _ _ octets (on l) (lp l).loop.invariant.3 b.hear-block.ensures in
-    omega (arith, heard-few _ _ (take (to l) octets) more, length-take (to l) octets, (start l).requires.0)
+    let more = heard_more _ _ octets (on l) (lp l).loop.invariant.3 b.hear-block.ensures in
+    omega (arith, heard_few _ _ (take (to l) octets) more, length-take (to l) octets, (start l).requires.0)
 
 loop-again : tie.Need-loop-preserved invariant-loop decreases-loop
 loop-again c =
@@ -80,13 +80,13 @@ loop-again c =
     let y = b.hear-block.new.1.1.1.1.0 in
     let k = b.hear-block.auto.1.1.1.0 in
     let m = b.hear-block.auto.1.1.1.1.0 in
-    let more = heard-more _ _ (start l).args.octets.now (on l) v.3 b.hear-block.ensures in (
+    let more = heard_more _ _ (start l).args.octets.now (on l) v.3 b.hear-block.ensures in (
       within l,
-      part-long (on l) low x k ∙ v.1,
-      part-long (on l) high y m ∙ v.2,
+      part_long (on l) low x k ∙ v.1,
+      part_long (on l) high y m ∙ v.2,
       record {
         answer = more.answer;
-        left = (λ i. (part-put (on l) low x k (low-room l) i, part-put (on l) high y m (high-room l) i)) ∙ more.left;
+        left = (λ i. (part_put (on l) low x k (low-room l) i, part_put (on l) high y m (high-room l) i)) ∙ more.left;
       },
     )
 

@@ -4,10 +4,10 @@ use native.Mathlib.Omega.{arith}
 use borrow.Author.Rules.{rules}
 use lib.ListN.{length}
 use Rattle.laws.specs.Outcome.{becomes}
-use Rattle.facts.specs.Overload.{overloads-most}
-use Rattle.facts.specs.Signals.{decoder-poles}
-use Rattle.sweep.specs.Block.{is_block, heard-block}
-use Rattle.decoder.specs.ByBand.{heard-by-band}
+use Rattle.facts.specs.Overload.{overloads_most}
+use Rattle.facts.specs.Signals.{decoder_poles}
+use Rattle.sweep.specs.Block.{is_block, heard_block_lem}
+use Rattle.decoder.specs.ByBand.{heard_by_band}
 use Rattle.decoder.proofs.signals.hear_block.Statement.{statement}
 use Rattle.decoder.proofs.signals.hear_block.Tie as tie
 
@@ -35,8 +35,8 @@ add-limited c =
       small-high h,
       low.limit-all.ensures.0,
       high.limit-all2.ensures.0,
-      overloads-most yls,
-      overloads-most yhs,
+      overloads_most yls,
+      overloads_most yhs,
     )
 
 returns : tie.Need-returns
@@ -47,14 +47,14 @@ returns c =
     let l = h.before.before.before in
     let s = l.before.before.before.before.before.before in
     let a = s.args in
-    let good = decoder-poles a.d s.requires.1.1.1 in
+    let good = decoder_poles a.d s.requires.1.1.1 in
     let block = is_block a.d.low.poles (length a.octets.now) (length a.low.now) in
     let block' = is_block a.d.high.poles (length a.octets.now) (length a.high.now) in
     let low_fits = block (omega (arith, s.requires)) (omega (arith, s.requires)) good.0 in
     let high_fits = block' (omega (arith, s.requires)) (omega (arith, s.requires)) good.1 in
-    heard-by-band _ _ _
-    (becomes (heard-block _ _ _ a.octets.now a.low.now low_fits) l.hear-band.ensures)
-    (becomes (heard-block _ _ _ a.octets.now a.high.now high_fits) h.hear-band2.ensures)
+    heard_by_band _ _ _
+    (becomes (heard_block_lem _ _ _ a.octets.now a.low.now low_fits) l.hear-band.ensures)
+    (becomes (heard_block_lem _ _ _ a.octets.now a.high.now high_fits) h.hear-band2.ensures)
     low.limit-all.ensures high.limit-all2.ensures c.done.ensures
 
 pub hear-block-spec : {M : Type 1} → statement M

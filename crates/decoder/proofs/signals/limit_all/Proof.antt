@@ -6,8 +6,8 @@ use native.Mathlib.Omega.{arith}
 use lib.IntN.{ℤ, pos}
 use lib.ListN.{length, take, drop, get_or, length-set, drop_of_length-le}
 use Rattle.laws.specs.Back.{back16, got32}
-use Rattle.laws.specs.Turns.{drop-one, still, put-place, put_all}
-use Rattle.facts.specs.Overload.{overloads-most}
+use Rattle.laws.specs.Turns.{drop_one, still, put_place, put_all}
+use Rattle.facts.specs.Overload.{overloads_most}
 use Rattle.g722.specs.Arithmetic.{limit, limited, one, overloads}
 use Rattle.g722.specs.declared.Limited.{Limited}
 use Rattle.decoder.proofs.signals.limit_all.Statement.{statement}
@@ -47,7 +47,7 @@ module _ (c : tie.After-one invariant-loop decreases-loop) where
   unfolding overloads
   counted =
       let n = c.one.ensures ∙ ap (λ (l : Limited). one l.changed) is in
-      omega (arith, at.loop.inv.4, ap overloads (drop-one at.loop.x at.loop.i (pos 0) inside), n)
+      omega (arith, at.loop.inv.4, ap overloads (drop_one at.loop.x at.loop.i (pos 0) inside), n)
 
 loop-again : tie.Need-loop-preserved invariant-loop decreases-loop
 unfolding limited
@@ -59,9 +59,9 @@ loop-again c =
       omega arith,
       v.1,
       length-set x i _ ∙ v.2,
-      put-place (map limit) x i _ (inside c)
+      put_place (map limit) x i _ (inside c)
           ∙ ap (λ (y : ℤ). take i x ++ y ∷ map limit (drop (i + 1) x)) value
-          ∙ ap (λ (l : List ℤ). take i x ++ map limit l) (sym (drop-one x i (pos 0) (inside c)))
+          ∙ ap (λ (l : List ℤ). take i x ++ map limit l) (sym (drop_one x i (pos 0) (inside c)))
           ∙ v.3,
       ap (λ (l : List ℤ). (at c).loop.limited + c.one.result + overloads l) (still x i _) ∙ counted c,
     )
@@ -70,7 +70,7 @@ loop-again c =
 add-limited : tie.Need-overflow-add-limited invariant-loop decreases-loop
 add-limited c =
     let x₀ = (at c).before.args.x.now in
-    omega (arith, counted c, overloads-most x₀, (at c).before.requires)
+    omega (arith, counted c, overloads_most x₀, (at c).before.requires)
 
 same_length : tie.Need-same-length invariant-loop decreases-loop
 same_length c = c.before.loop.invariant.2

@@ -5,7 +5,7 @@ use lib.IntN.{negsuc}
 use lib.ListN.{length, replicate}
 use lib.Seq.{length-take-le}
 use borrow.Author.Rules.{rules}
-use Rattle.desk.proofs.Laws.{part-within}
+use Rattle.desk.proofs.Laws.{part_within}
 use Rattle.desk.proofs.files.run.Statement.{statement}
 use Rattle.desk.proofs.files.run.Tie as tie
 
@@ -18,7 +18,7 @@ slice-aggregate-open-and-mix-2 c = sym (length-take-le _ _ (omega arith))
 open-and-mix-requires : tie.Need-open-and-mix-requires
 open-and-mix-requires c κs =
     let n = length c.before.before.before.args.modes.now in
-    let room = part-within n 8 (replicate 8 (negsuc 0)) (omega arith) (omega arith) in
+    let room = part_within n 8 (replicate 8 (negsuc 0)) (omega arith) (omega arith) in
     (omega arith, (omega arith, (room, room)))
 
 pub run_spec : {M : Type 1} → statement M

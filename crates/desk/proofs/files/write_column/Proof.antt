@@ -4,7 +4,7 @@ use native.Mathlib.Omega.{arith}
 use lib.ListN.{replicate}
 use lib.Seq.{length-take-le}
 use borrow.Author.Rules.{rules}
-use Rattle.desk.proofs.Laws.{part-within, all-lent}
+use Rattle.desk.proofs.Laws.{part_within, all_lent}
 use Rattle.desk.proofs.files.write_column.Statement.{statement}
 use Rattle.desk.proofs.files.write_column.Tie as tie
 
@@ -12,12 +12,12 @@ slice-aggregate-unweave : tie.Need-slice-aggregate-unweave
 slice-aggregate-unweave c = sym (length-take-le _ _ (omega arith))
 
 unweave-requires : tie.Need-unweave-requires
-unweave-requires c κs = (omega arith, (omega arith, part-within c.before.args.n 1000 (replicate 1000 0) (omega arith) (omega arith)))
+unweave-requires c κs = (omega arith, (omega arith, part_within c.before.args.n 1000 (replicate 1000 0) (omega arith) (omega arith)))
 
 array-share-prefix-column : tie.Need-array-share-prefix-column
 array-share-prefix-column c =
     let u = c.before.unweave in
-    all-lent _ (replicate 1000 0) u.new.1.1.1.0 u.auto.1.1.1.0 (omega arith)
+    all_lent _ (replicate 1000 0) u.new.1.1.1.0 u.auto.1.1.1.0 (omega arith)
 
 slice-aggregate-written : tie.Need-slice-aggregate-written
 slice-aggregate-written c = sym (length-take-le _ _ (array-share-prefix-column c.before))

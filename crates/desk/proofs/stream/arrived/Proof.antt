@@ -7,7 +7,7 @@ use native.Mathlib.Omega.{arith}
 use lib.ListN.{length}
 use borrow.Author.Rules.{rules}
 use borrow.Rule.Slice.PartMut.{mid_len}
-use Rattle.desk.proofs.Laws.{end-behind, end-in}
+use Rattle.desk.proofs.Laws.{end_behind, end_in}
 use Rattle.desk.proofs.stream.arrived.Statement.{statement}
 use Rattle.desk.proofs.stream.arrived.Tie as tie
 
@@ -32,10 +32,10 @@ module _ (e : tie.Else2) where
   size = r.read.kept.1.0 ∙ s.pre.1
 
   behind : n ≤ to
-  behind = end-behind n s.args.ports s.pre.0
+  behind = end_behind n s.args.ports s.pre.0
 
   within : to ≤ length octets
-  within = end-in n s.args.ports (length octets) size s.pre.0 e.if2.left e.before.count.ensures.0.0
+  within = end_in n s.args.ports (length octets) size s.pre.0 e.if2.left e.before.count.ensures.0.0
 
 returns-3 : tie.Need-returns-3
 returns-3 c =

@@ -6,7 +6,7 @@ use native.Mathlib.Omega.{arith}
 use lib.ListN.{length, replicate}
 use lib.Seq.{length-take-le}
 use borrow.Author.Rules.{rules}
-use Rattle.desk.proofs.Laws.{same-part, all-lent}
+use Rattle.desk.proofs.Laws.{same_part, all_lent}
 use Rattle.desk.proofs.stream.send.Statement.{statement}
 use Rattle.desk.proofs.stream.send.Tie as tie
 
@@ -21,13 +21,13 @@ mix-requires c κs =
     let s = c.before.before.before.before in
     let octets = s.args.octets.now in
     let n = length octets - length octets % length s.args.modes.now in
-    let part = same-part n (replicate 8000 0) octets (omega arith) (omega arith) in
+    let part = same_part n (replicate 8000 0) octets (omega arith) (omega arith) in
     (omega arith, (omega (arith, length-take-le n octets (omega arith), s.requires.1), part))
 
 array-share-prefix-room : tie.Need-array-share-prefix-room
 array-share-prefix-room c =
     let m = c.before.before.mix in
-    all-lent _ (replicate 8000 0) m.new.1.1.1.0 m.auto.1.1.1.0 (omega arith)
+    all_lent _ (replicate 8000 0) m.new.1.1.1.0 m.auto.1.1.1.0 (omega arith)
 
 slice-aggregate-sent : tie.Need-slice-aggregate-sent
 slice-aggregate-sent c = sym (length-take-le _ _ (array-share-prefix-room c.before))

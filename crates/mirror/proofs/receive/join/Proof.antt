@@ -6,14 +6,14 @@ use borrow.Author.Rules.{rules}
 use borrow.Author.Tests.{not-true, not-false}
 use lib.ListN.{length}
 use Rattle.laws.specs.Outcome.{does}
-use Rattle.mirror.specs.Block.{blockFits, joinBlock}
-use Rattle.mirror.specs.Fitting.{fit-lengths, join_runs}
-use Rattle.mirror.proofs.Joining.{join-whole}
+use Rattle.mirror.specs.Block.{block_fits, join_block}
+use Rattle.mirror.specs.Fitting.{fit_lengths, join_runs}
+use Rattle.mirror.proofs.Joining.{join_whole}
 use Rattle.mirror.proofs.receive.join.Statement.{statement}
 use Rattle.mirror.proofs.receive.join.Tie as tie
 
 returns : tie.Need-returns
-unfolding joinBlock
+unfolding join_block
 returns c =
     let e = sym c.before.fits2.ensures ∙ not-true _ c.if1.true in
     record { answer = rw e; left = rw e }
@@ -23,7 +23,7 @@ module _ (e : tie.Else1) where
   abbrev start : tie.Start
   start = e.before.before
 
-  fit : blockFits (length start.args.samples.now) (length start.args.low.now) (length start.args.high.now) ≡ true
+  fit : block_fits (length start.args.samples.now) (length start.args.low.now) (length start.args.high.now) ≡ true
   fit = sym e.before.fits2.ensures ∙ not-false _ e.if1.left
 
   rl-long : length start.args.past.rl ≡ 11
@@ -45,7 +45,7 @@ returns-2 c =
     let y = j.before.before.before.before.before.before in
     let x = first y in
     let e = tested x in
-    let d = join-whole _ _ _ (rl-long e) (rh-long e) (fit-lengths _ _ _ (fit e)).2 x.cross.ensures.0 x.cross.ensures.1
+    let d = join_whole _ _ _ (rl-long e) (rh-long e) (fit_lengths _ _ _ (fit e)).2 x.cross.ensures.0 x.cross.ensures.1
     y.cross2.ensures.0 y.cross2.ensures.1 j.join-rows.ensures h.last.ensures c.last2.ensures in
     does (join_runs _ _ _ _ (fit e)) d.answer d.left
 
@@ -64,10 +64,10 @@ join-spec =
     (λ c. search rules)
     (λ c. search rules)
     (λ c κs. let x = c.before.before.before.before in
-    let n = fit-lengths _ _ _ (fit (tested x)) in
+    let n = fit_lengths _ _ _ (fit (tested x)) in
     let d = x.cross.ensures.0.long in
     (n.2, (omega arith, x.cross.ensures.1.long ∙ sym d)))
-    (λ c κs. let n = fit-lengths _ _ _ (fit (tested (first c.before.before.before.before.before))) in (n.0, n.1))
+    (λ c κs. let n = fit_lengths _ _ _ (fit (tested (first c.before.before.before.before.before))) in (n.0, n.1))
     (λ c κs. tt)
     (λ c κs. tt)
     (λ c. search rules)

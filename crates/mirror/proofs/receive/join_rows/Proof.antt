@@ -6,18 +6,18 @@ use lib.ListN.{length-set}
 use Rattle.laws.specs.Back.{back16}
 use Rattle.g722.specs.Arithmetic.{limit, limited, changes}
 use Rattle.g722.specs.declared.Limited.{Limited}
-use Rattle.facts.specs.Overload.{room-for-two}
-use Rattle.mirror.specs.Rows.{first_at, secondAt}
+use Rattle.facts.specs.Overload.{room_for_two}
+use Rattle.mirror.specs.Rows.{first_at, second_at}
 use Rattle.mirror.proofs.Sums.{shifted}
-use Rattle.mirror.proofs.Loops.{Paired, paired_none, paired-more, paired-all, Counting, counted_none, counted-more, counted-all}
+use Rattle.mirror.proofs.Loops.{Paired, paired_none, paired_more, paired_all, Counting, counted_none, counted_more, counted_all}
 use Rattle.mirror.proofs.receive.join_rows.Statement.{statement}
 use Rattle.mirror.proofs.receive.join_rows.Tie as tie
 
 abbrev invariant-loop : tie.invariant-loop
 invariant-loop xd xs n samples₀ limited₀ i₀ samples limited i =
     (i ≤ n)
-    × Paired (λ (k : ℕ). limit (first_at xd k)) (λ (k : ℕ). limit (secondAt xs k)) n samples i
-    × Counting (first_at xd) (secondAt xs) n limited i
+    × Paired (λ (k : ℕ). limit (first_at xd k)) (λ (k : ℕ). limit (second_at xs k)) n samples i
+    × Counting (first_at xd) (second_at xs) n limited i
 
 abbrev decreases-loop : tie.decreases-loop
 decreases-loop xd xs n samples₀ limited₀ i₀ samples limited i = n - i
@@ -31,7 +31,7 @@ module _ (c : tie.After-limit2 invariant-loop decreases-loop) where
   first = limited (first_at loop.before.args.xd.now loop.loop.i)
 
   abbrev second : Limited
-  second = limited (secondAt loop.before.args.xs.now loop.loop.i)
+  second = limited (second_at loop.before.args.xs.now loop.loop.i)
 
   first≡ : c.before.before.limit.result ≡ first
   unfolding first_at
@@ -40,7 +40,7 @@ module _ (c : tie.After-limit2 invariant-loop decreases-loop) where
       c.before.before.limit.ensures ∙ ap limited (shifted 4096 t.type-inv t.ensures.0)
 
   second≡ : c.limit2.result ≡ second
-  unfolding secondAt
+  unfolding second_at
   second≡ = let t = c.before.taps2 in c.limit2.ensures ∙ ap limited (shifted 4096 t.type-inv t.ensures.0)
 
 module _ (c : tie.After-changes invariant-loop decreases-loop) where
@@ -57,12 +57,12 @@ loop-again c =
     let v = (loop p).loop.inv in
     let x = back16 _ c.before.before.struct_told.given.0.1 ∙ ap (λ (t : Limited). t.value) (first≡ p) in
     let y = back16 _ c.before.struct-told2.given.0.1 ∙ ap (λ (t : Limited). t.value) (second≡ p) in
-    (omega arith, paired-more _ _ _ v.1 (omega arith) x y, counted-more _ _ _ v.2 (omega arith) (changes≡ c))
+    (omega arith, paired_more _ _ _ v.1 (omega arith) x y, counted_more _ _ _ v.2 (omega arith) (changes≡ c))
 
 returns : tie.Need-returns invariant-loop decreases-loop
 returns c =
     let v = c.before.loop.invariant in
-    record { answer = counted-all _ _ _ v.2 (omega arith); left = paired-all _ _ _ v.1 (omega arith) }
+    record { answer = counted_all _ _ _ v.2 (omega arith); left = paired_all _ _ _ v.1 (omega arith) }
 
 pub join_rows_spec : {M : Type 1} → statement M
 join_rows_spec =
@@ -83,7 +83,7 @@ join_rows_spec =
     (λ c. omega arith)
     (λ c. rw length-set (omega (arith, (loop c.before.before).loop.inv.1.long)))
     (λ c κs. tt)
-    (λ c. omega (arith, room-for-two _ _ (loop (pair c)).loop.inv.2 (omega arith) c.changes.ensures))
+    (λ c. omega (arith, room_for_two _ _ (loop (pair c)).loop.inv.2 (omega arith) c.changes.ensures))
     (λ c. omega arith)
     (λ c. omega arith)
     loop-again

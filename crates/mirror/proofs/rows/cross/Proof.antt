@@ -6,7 +6,7 @@ use lib.ListN.{length}
 use Rattle.laws.specs.Back.{back16, got16}
 use Rattle.g722.specs.Arithmetic.{add, sub}
 use Rattle.mirror.specs.Rows.{Crossed}
-use Rattle.mirror.proofs.Loops.{crossed-none, crossed-more}
+use Rattle.mirror.proofs.Loops.{crossed_none, crossed_more}
 use Rattle.mirror.proofs.rows.cross.Statement.{statement}
 use Rattle.mirror.proofs.rows.cross.Tie as tie
 
@@ -29,8 +29,8 @@ loop-again c =
     let b = back16 _ t.before.h.given in (
       m,
       refl,
-      crossed-more v.2 e (omega arith) (omega arith) (got16 t.sub ∙ (t.sub.ensures ∙ λ j. sub (a j) (b j))),
-      crossed-more v.3 e (omega arith) (omega arith) (got16 c.add ∙ (c.add.ensures ∙ λ j. add (a j) (b j))),
+      crossed_more v.2 e (omega arith) (omega arith) (got16 t.sub ∙ (t.sub.ensures ∙ λ j. sub (a j) (b j))),
+      crossed_more v.3 e (omega arith) (omega arith) (got16 c.add ∙ (c.add.ensures ∙ λ j. add (a j) (b j))),
     )
 
 returns : tie.Need-returns invariant-loop decreases-loop
@@ -45,7 +45,7 @@ cross-spec =
     (tie.spec
     invariant-loop
     decreases-loop
-    (λ c. (zero-le, refl, crossed-none _ _ _ _ _, crossed-none _ _ _ _ _))
+    (λ c. (zero-le, refl, crossed_none _ _ _ _ _, crossed_none _ _ _ _ _))
     (λ c. omega arith)
     (λ c. omega arith)
     (λ c. omega arith)

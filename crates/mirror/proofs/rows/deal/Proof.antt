@@ -6,7 +6,7 @@ use native.Mathlib.Omega.{arith}
 use lib.ListN.{length}
 use Rattle.laws.specs.Back.{back16}
 use Rattle.mirror.specs.Rows.{nth, Holds}
-use Rattle.mirror.proofs.Loops.{held_none, held_more, in-front, behind}
+use Rattle.mirror.proofs.Loops.{held_none, held_more, in_front_lem, behind}
 use Rattle.mirror.proofs.rows.deal.Statement.{statement}
 use Rattle.mirror.proofs.rows.deal.Tie as tie
 
@@ -27,7 +27,7 @@ loop-again : tie.Need-loop-preserved invariant-loop decreases-loop invariant-loo
 loop-again c =
     let l = c.before.before in
     let s = l.before.args in
-    let e = in-front s.past.now s.samples.now (2 * l.loop.i + s.phase) (omega arith) (back16 _ c.v.given) in
+    let e = in_front_lem s.past.now s.samples.now (2 * l.loop.i + s.phase) (omega arith) (back16 _ c.v.given) in
     (omega arith, held_more l.loop.invariant.1 (omega arith) (omega arith) e)
 
 loop2-holds : tie.Need-loop2-init invariant-loop decreases-loop invariant-loop2 decreases-loop2

@@ -4,7 +4,7 @@ use Prim.Native.Nat.{ℕ, ◌+◌, ◌-◌, ◌≤◌}
 use native.Mathlib.Omega.{arith}
 use Rattle.laws.specs.Back.{back16}
 use Rattle.mirror.specs.Rows.{nth}
-use Rattle.mirror.proofs.Loops.{Paired, paired_none, paired-more, paired-all}
+use Rattle.mirror.proofs.Loops.{Paired, paired_none, paired_more, paired_all}
 use Rattle.mirror.proofs.rows.kept.Statement.{statement}
 use Rattle.mirror.proofs.rows.kept.Tie as tie
 
@@ -18,10 +18,10 @@ loop-again : tie.Need-loop-preserved invariant-loop decreases-loop
 loop-again c =
     let x = c.before in
     let l = x.before.before.loop in
-    (omega arith, paired-more _ _ _ l.invariant.1 (omega arith) (back16 _ x.x.given) (back16 _ c.y.given))
+    (omega arith, paired_more _ _ _ l.invariant.1 (omega arith) (back16 _ x.x.given) (back16 _ c.y.given))
 
 returns : tie.Need-returns invariant-loop decreases-loop
-returns c = paired-all _ _ _ c.before.loop.invariant.1 (omega arith)
+returns c = paired_all _ _ _ c.before.loop.invariant.1 (omega arith)
 
 pub kept-spec : {M : Type 1} → statement M
 kept-spec =

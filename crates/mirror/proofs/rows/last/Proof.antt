@@ -11,7 +11,7 @@ use lib.Seq.{get_or-drop}
 use Rattle.laws.specs.Back.{back16}
 use Rattle.laws.specs.Filled.{Filled, fill, filled}
 use Rattle.mirror.specs.Rows.{nth}
-use Rattle.mirror.proofs.Loops.{in-front, behind}
+use Rattle.mirror.proofs.Loops.{in_front_lem, behind}
 use Rattle.mirror.proofs.rows.last.Statement.{statement}
 use Rattle.mirror.proofs.rows.last.Tie as tie
 
@@ -39,7 +39,7 @@ loop-again c =
     let e : length p ≡ 11 = search rules in (
       omega arith,
       ⊎_elim
-          (λ w. rw w.2 (more p x e l.loop.invariant.1 (omega arith) (in-front p x k (omega arith) (back16 _ w.1.given))))
+          (λ w. rw w.2 (more p x e l.loop.invariant.1 (omega arith) (in_front_lem p x k (omega arith) (back16 _ w.1.given))))
           (λ w. rw w.2 (more p x e l.loop.invariant.1 (omega arith) (behind p x (k - 11) (omega arith) (back16 _ w.1.given))))
           c.if1.branch,
     )

@@ -7,14 +7,14 @@ use borrow.Author.Rules.{rules}
 use borrow.Author.Tests.{not-true, not-false}
 use lib.ListN.{length}
 use Rattle.laws.specs.Outcome.{does}
-use Rattle.mirror.specs.Block.{blockFits, splitBlock}
-use Rattle.mirror.specs.Fitting.{fit-lengths, split-fits}
-use Rattle.mirror.proofs.Splitting.{split-whole}
+use Rattle.mirror.specs.Block.{block_fits, split_block}
+use Rattle.mirror.specs.Fitting.{fit_lengths, split_fits}
+use Rattle.mirror.proofs.Splitting.{split_whole}
 use Rattle.mirror.proofs.transmit.split.Statement.{statement}
 use Rattle.mirror.proofs.transmit.split.Tie as tie
 
 returns : tie.Need-returns
-unfolding splitBlock
+unfolding split_block
 returns c =
     let e = sym c.before.fits2.ensures ∙ not-true _ c.if1.true in
     record { answer = rw e; left = rw e }
@@ -24,7 +24,7 @@ module _ (e : tie.Else1) where
   abbrev start : tie.Start
   start = e.before.before
 
-  fit : blockFits (length start.args.samples.now) (length start.args.low.now) (length start.args.high.now) ≡ true
+  fit : block_fits (length start.args.samples.now) (length start.args.low.now) (length start.args.high.now) ≡ true
   fit = sym e.before.fits2.ensures ∙ not-false _ e.if1.left
 
   past-long : length start.args.t1 ≡ 22
@@ -42,9 +42,9 @@ returns-2 c =
     let o = r.before.before.before.before.before.before in
     let e = first o in
     let t = tested e in
-    let n = fit-lengths _ _ _ (fit t) in
-    let d = split-whole _ _ _ (past-long t) n.1 e.deal.ensures o.deal2.ensures r.split_rows.ensures c.kept.ensures in
-    does (split-fits _ _ _ _ (fit t)) d.answer d.left
+    let n = fit_lengths _ _ _ (fit t) in
+    let d = split_whole _ _ _ (past-long t) n.1 e.deal.ensures o.deal2.ensures r.split_rows.ensures c.kept.ensures in
+    does (split_fits _ _ _ _ (fit t)) d.answer d.left
 
 pub split-spec : {M : Type 1} → statement M
 split-spec =
@@ -53,12 +53,12 @@ split-spec =
     (λ c κs. search rules)
     returns
     (λ c. search rules)
-    (λ c κs. let t = c.before.before in (refl, (zero-le, (past-long t, omega (arith, fit-lengths _ _ _ (fit t))))))
+    (λ c κs. let t = c.before.before in (refl, (zero-le, (past-long t, omega (arith, fit_lengths _ _ _ (fit t))))))
     (λ c. search rules)
-    (λ c κs. let t = tested c.before.before.before in (refl, (omega arith, (past-long t, omega (arith, fit-lengths _ _ _ (fit t))))))
-    (λ c κs. let n = fit-lengths _ _ _ (fit (tested (first c.before.before.before.before.before))) in (n.0, n.2))
+    (λ c κs. let t = tested c.before.before.before in (refl, (omega arith, (past-long t, omega (arith, fit_lengths _ _ _ (fit t))))))
+    (λ c κs. let n = fit_lengths _ _ _ (fit (tested (first c.before.before.before.before.before))) in (n.0, n.2))
     (λ c κs. let r = c.before.before.before.before in
-    (fit-lengths _ _ _ (fit (tested (first r.before.before.before.before.before.before)))).0)
+    (fit_lengths _ _ _ (fit (tested (first r.before.before.before.before.before.before)))).0)
     (λ c. search rules)
     (λ c. search rules)
     returns-2)

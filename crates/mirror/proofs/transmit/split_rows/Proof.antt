@@ -8,13 +8,13 @@ use mir.Syntax.{w32}
 use mir.Val.{to_z, of_z}
 use mir.Facts.{to_z-of_z}
 use Rattle.laws.specs.Back.{back16, got32}
-use Rattle.laws.specs.Size.{shr-fits}
+use Rattle.laws.specs.Size.{shr_fits}
 use Rattle.g722.specs.Arithmetic.{limit, limited, changes}
 use Rattle.g722.specs.declared.Limited.{Limited}
-use Rattle.facts.specs.Overload.{room-for-two}
-use Rattle.mirror.specs.Rows.{nth, tapsAt, lowAt, highAt}
-use Rattle.mirror.proofs.Sums.{Read, plus-fits, less-fits}
-use Rattle.mirror.proofs.Loops.{Stored, stored-none, stored_more, stored-all, Counting, counted_none, counted-more, counted-all}
+use Rattle.facts.specs.Overload.{room_for_two}
+use Rattle.mirror.specs.Rows.{nth, taps_at, low_at, high_at}
+use Rattle.mirror.proofs.Sums.{Read, plus_fits, less_fits}
+use Rattle.mirror.proofs.Loops.{Stored, stored_none, stored_more, stored_all, Counting, counted_none, counted_more, counted_all}
 use Rattle.mirror.proofs.transmit.split_rows.Statement.{statement}
 use Rattle.mirror.proofs.transmit.split_rows.Tie as tie
 
@@ -22,9 +22,9 @@ abbrev invariant-loop : tie.invariant-loop
 invariant-loop even odd low₀ high₀ limited₀ i₀ i-end low high limited i =
     (i ≤ i-end)
     × (i-end ≡ length low₀)
-    × Stored (λ (k : ℕ). limit (lowAt even odd k)) (length low₀) low i
-    × Stored (λ (k : ℕ). limit (highAt even odd k)) (length low₀) high i
-    × Counting (lowAt even odd) (highAt even odd) (length low₀) limited i
+    × Stored (λ (k : ℕ). limit (low_at even odd k)) (length low₀) low i
+    × Stored (λ (k : ℕ). limit (high_at even odd k)) (length low₀) high i
+    × Counting (low_at even odd) (high_at even odd) (length low₀) limited i
 
 abbrev decreases-loop : tie.decreases-loop
 decreases-loop even odd low₀ high₀ limited₀ i₀ i-end low high limited i = i-end - i
@@ -34,10 +34,10 @@ module _ (c : tie.After-taps2 invariant-loop decreases-loop) where
   abbrev loop : tie.At-loop invariant-loop decreases-loop
   loop = c.before.before.before
 
-  a : Read (6482 * 32768) (to_z w32 (of_z w32 c.before.taps.result)) (tapsAt 0 (nth loop.before.args.odd.now) loop.loop.i)
+  a : Read (6482 * 32768) (to_z w32 (of_z w32 c.before.taps.result)) (taps_at 0 (nth loop.before.args.odd.now) loop.loop.i)
   a = let t = c.before.taps in record { is = got32 t ∙ t.ensures.0; small = rw t.ensures.0 at t.ensures.1 }
 
-  b : Read (6482 * 32768) (to_z w32 (of_z w32 c.taps2.result)) (tapsAt 1 (nth loop.before.args.even.now) loop.loop.i)
+  b : Read (6482 * 32768) (to_z w32 (of_z w32 c.taps2.result)) (taps_at 1 (nth loop.before.args.even.now) loop.loop.i)
   b = let t = c.taps2 in record { is = got32 t ∙ t.ensures.0; small = rw t.ensures.0 at t.ensures.1 }
 
 -- the two signals
@@ -46,22 +46,22 @@ module _ (c : tie.After-limit2 invariant-loop decreases-loop) where
   sums = c.before.before
 
   abbrev xl : ℕ → Limited
-  xl i = limited (lowAt (loop sums).before.args.even.now (loop sums).before.args.odd.now i)
+  xl i = limited (low_at (loop sums).before.args.even.now (loop sums).before.args.odd.now i)
 
   abbrev xh : ℕ → Limited
-  xh i = limited (highAt (loop sums).before.args.even.now (loop sums).before.args.odd.now i)
+  xh i = limited (high_at (loop sums).before.args.even.now (loop sums).before.args.odd.now i)
 
   low≡ : c.before.limit.result ≡ xl (loop sums).loop.i
-  unfolding lowAt
+  unfolding low_at
   low≡ =
-      let p = plus-fits (a sums) (b sums) (lit< tt) in
-      c.before.limit.ensures ∙ rw (to_z-of_z p, to_z-of_z (shr-fits 8192 p), (a sums).is, (b sums).is)
+      let p = plus_fits (a sums) (b sums) (lit< tt) in
+      c.before.limit.ensures ∙ rw (to_z-of_z p, to_z-of_z (shr_fits 8192 p), (a sums).is, (b sums).is)
 
   high≡ : c.limit2.result ≡ xh (loop sums).loop.i
-  unfolding highAt
+  unfolding high_at
   high≡ =
-      let m = less-fits (a sums) (b sums) (lit< tt) in
-      c.limit2.ensures ∙ rw (to_z-of_z m, to_z-of_z (shr-fits 8192 m), (a sums).is, (b sums).is)
+      let m = less_fits (a sums) (b sums) (lit< tt) in
+      c.limit2.ensures ∙ rw (to_z-of_z m, to_z-of_z (shr_fits 8192 m), (a sums).is, (b sums).is)
 
 module _ (c : tie.After-changes invariant-loop decreases-loop) where
   abbrev signals : tie.After-limit2 invariant-loop decreases-loop
@@ -84,15 +84,15 @@ loop-again c =
       refl,
       stored_more _ _ v.2 (omega arith) low,
       stored_more _ _ v.3 (omega arith) high,
-      counted-more _ _ _ v.4 (omega arith) (changes≡ c),
+      counted_more _ _ _ v.4 (omega arith) (changes≡ c),
     )
 
 returns : tie.Need-returns invariant-loop decreases-loop
 returns c =
     let v = c.before.loop.invariant in
-    let low = stored-all _ _ v.2 (omega arith) in
-    let high = stored-all _ _ v.3 (omega arith) in
-    record { answer = counted-all _ _ _ v.4 (omega arith); left = λ j. (low j, high j) }
+    let low = stored_all _ _ v.2 (omega arith) in
+    let high = stored_all _ _ v.3 (omega arith) in
+    record { answer = counted_all _ _ _ v.4 (omega arith); left = λ j. (low j, high j) }
 
 pub split_rows_spec : {M : Type 1} → statement M
 split_rows_spec =
@@ -100,19 +100,19 @@ split_rows_spec =
     (tie.spec
     invariant-loop
     decreases-loop
-    (λ c. (zero-le, refl, stored-none _ _ _ refl, stored-none _ _ _ c.requires.1, counted_none _ _ _))
+    (λ c. (zero-le, refl, stored_none _ _ _ refl, stored_none _ _ _ c.requires.1, counted_none _ _ _))
     (λ c κs. (zero-le, omega arith))
     (λ c κs. (omega arith, omega arith))
-    (λ c. plus-fits (a c) (b c) (omega arith))
+    (λ c. plus_fits (a c) (b c) (omega arith))
     (λ c κs. tt)
-    (λ c. less-fits (a c.before) (b c.before) (omega arith))
+    (λ c. less_fits (a c.before) (b c.before) (omega arith))
     (λ c κs. tt)
     (λ c. omega arith)
     (λ c. omega (arith, (loop c.before.before.before.before).loop.inv.2.long))
     (λ c. omega arith)
     (λ c. omega (arith, (loop c.before.before.before.before).loop.inv.3.long))
     (λ c κs. tt)
-    (λ c. omega (arith, room-for-two _ _ (at c).loop.invariant.4 (omega arith) c.changes.ensures))
+    (λ c. omega (arith, room_for_two _ _ (at c).loop.invariant.4 (omega arith) c.changes.ensures))
     (λ c. omega arith)
     (λ c. omega arith)
     loop-again

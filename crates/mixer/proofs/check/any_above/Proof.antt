@@ -6,27 +6,27 @@ use Prim.Native.Nat.{ℕ, ◌+◌, ◌-◌, ◌≤◌, ◌<◌}
 use native.Mathlib.Omega.{arith}
 use borrow.Author.Tests.{lt-ltb, le-ltb}
 use lib.ListN.{length, drop, get_or, drop_of_length-le}
-use Rattle.laws.specs.Turns.{drop-one}
-use Rattle.conference.specs.Tick.{anyAbove}
+use Rattle.laws.specs.Turns.{drop_one}
+use Rattle.conference.specs.Tick.{any_above}
 use Rattle.mixer.proofs.check.any_above.Statement.{statement}
 use Rattle.mixer.proofs.check.any_above.Tie as tie
 
 abbrev invariant-loop : tie.invariant-loop
-invariant-loop modes i₀ i-end i = (i ≤ i-end) × (i-end ≡ length modes) × (anyAbove (drop i modes) ≡ anyAbove modes)
+invariant-loop modes i₀ i-end i = (i ≤ i-end) × (i-end ≡ length modes) × (any_above (drop i modes) ≡ any_above modes)
 
 abbrev decreases-loop : tie.decreases-loop
 decreases-loop modes i₀ i-end i = i-end - i
 
-found : (modes : List ℕ) (i : ℕ) → i < length modes → 3 < get_or modes i 0 → anyAbove (drop i modes) ≡ true
-unfolding anyAbove
-found modes i h l = rw (drop-one modes i 0 h, lt-ltb 3 (get_or modes i 0) l) refl
+found : (modes : List ℕ) (i : ℕ) → i < length modes → 3 < get_or modes i 0 → any_above (drop i modes) ≡ true
+unfolding any_above
+found modes i h l = rw (drop_one modes i 0 h, lt-ltb 3 (get_or modes i 0) l) refl
 
-passed : (modes : List ℕ) (i : ℕ) → i < length modes → get_or modes i 0 ≤ 3 → anyAbove (drop i modes) ≡ anyAbove (drop (i + 1) modes)
-unfolding anyAbove
-passed modes i h l = rw (drop-one modes i 0 h, le-ltb 3 (get_or modes i 0) l) refl
+passed : (modes : List ℕ) (i : ℕ) → i < length modes → get_or modes i 0 ≤ 3 → any_above (drop i modes) ≡ any_above (drop (i + 1) modes)
+unfolding any_above
+passed modes i h l = rw (drop_one modes i 0 h, le-ltb 3 (get_or modes i 0) l) refl
 
-none : (modes : List ℕ) (i : ℕ) → length modes ≤ i → anyAbove (drop i modes) ≡ false
-unfolding anyAbove
+none : (modes : List ℕ) (i : ℕ) → length modes ≤ i → any_above (drop i modes) ≡ false
+unfolding any_above
 none modes i h = rw (drop_of_length-le modes h) refl
 
 returns : tie.Need-returns invariant-loop decreases-loop

@@ -6,7 +6,7 @@ use mir.Syntax.{w32}
 use mir.Val.{to_z, of_z}
 use mir.Facts.{to_z-of_z}
 use Rattle.laws.specs.Back.{widened}
-use Rattle.laws.specs.Size.{fits-abs, abs-sub, abs16}
+use Rattle.laws.specs.Size.{fits_abs, abs_sub, abs16}
 use Rattle.g722.specs.Arithmetic.{limited}
 use Rattle.mixer.proofs.sums.others.Statement.{statement}
 use Rattle.mixer.proofs.sums.others.Tie as tie
@@ -20,7 +20,7 @@ difference c =
 sub-limit : tie.Need-overflow-sub-limit
 sub-limit c =
     let s = c.before in
-    rw (difference c) (fits-abs (omega (arith, abs-sub s.args.all s.args.own_val, abs16 s.ranges.own_val)))
+    rw (difference c) (fits_abs (omega (arith, abs_sub s.args.all s.args.own_val, abs16 s.ranges.own_val)))
 
 returns : tie.Need-returns
 returns c = c.limit.ensures ∙ ap limited (to_z-of_z (sub-limit c.before) ∙ difference c.before)

@@ -10,8 +10,8 @@ use mir.Val.{SFits, to_z, of_z}
 use mir.Facts.{to_z-of_z}
 use Rattle.laws.specs.Back.{widened}
 use Rattle.laws.specs.Order.{zarith, add_read}
-use Rattle.laws.specs.Size.{fits-abs, abs-add, abs16}
-use Rattle.laws.specs.Turns.{drop-one}
+use Rattle.laws.specs.Size.{fits_abs, abs_add, abs16}
+use Rattle.laws.specs.Turns.{drop_one}
 use Rattle.conference.specs.Sums.{sum_of}
 use Rattle.mixer.proofs.sums.total.Statement.{statement}
 use Rattle.mixer.proofs.sums.total.Tie as tie
@@ -34,7 +34,7 @@ turn sum xs i h =
     let x = get_or xs i (pos 0) in
     let rest = sum_of (drop (i + 1) xs) in
     omega (zarith, add_read (sum +ℤ x) rest, add_read sum x, add_read sum (x +ℤ rest), add_read x rest)
-    ∙ ap (λ (l : List ℤ). sum +ℤ sum_of l) (sym (drop-one xs i (pos 0) h))
+    ∙ ap (λ (l : List ℤ). sum +ℤ sum_of l) (sym (drop_one xs i (pos 0) h))
 
 end : (sum : ℤ) (xs : List ℤ) (i : ℕ) → length xs ≤ i → sum ≡ sum +ℤ sum_of (drop i xs)
 unfolding sum_of
@@ -58,10 +58,10 @@ module _ (c : tie.After-wide invariant-loop decreases-loop) where
   read = widened c.wide.type-inv c.wide.ensures signal-fits
 
   size : nat_abs (to_z w32 at.loop.sum +ℤ signal) ≤ 32768 * (at.loop.i + 1)
-  size = omega (arith, abs-add (to_z w32 at.loop.sum) signal, abs16 signal-fits, at.loop.inv.3)
+  size = omega (arith, abs_add (to_z w32 at.loop.sum) signal, abs16 signal-fits, at.loop.inv.3)
 
   fits : SFits w32 (to_z w32 at.loop.sum +ℤ to_z w32 (of_z w32 c.wide.result))
-  fits = rw read (fits-abs (omega (arith, size)))
+  fits = rw read (fits_abs (omega (arith, size)))
 
   summed : to_z w32 (of_z w32 (to_z w32 at.loop.sum +ℤ to_z w32 (of_z w32 c.wide.result))) ≡ to_z w32 at.loop.sum +ℤ signal
   summed = to_z-of_z fits ∙ ap (λ (z : ℤ). to_z w32 at.loop.sum +ℤ z) read

@@ -2,31 +2,31 @@
 use mathlib.Core.Path.{refl, ap, ◌∙◌}
 use native.Mathlib.Omega.{arith}
 use Rattle.laws.specs.Outcome.{does}
-use Rattle.big_endian.specs.Bytes.{pcmBytes, store-all}
-use Rattle.pcm.specs.Chunks.{asBytes}
-use Rattle.pcm.proofs.Calls.{decode-done, decode-refused}
+use Rattle.big_endian.specs.Bytes.{pcm_bytes, store_all}
+use Rattle.pcm.specs.Chunks.{as_bytes}
+use Rattle.pcm.proofs.Calls.{decode_done, decode_refused}
 use borrow.Author.Rules.{rules}
 use Rattle.pcm.proofs.chunk.decode_and_store.Statement.{statement}
 use Rattle.pcm.proofs.chunk.decode_and_store.Tie as tie
 
 returns : tie.Need-returns
-unfolding asBytes
+unfolding as_bytes
 returns c =
     let t = c.before.before in
     let n = t.before.before.before in
     let d = n.before.before.before in
     let a = d.before.before.before.before.args in
     does
-    (decode-done a.d a.told a.octets.now a.bytes.now a.samples.now (omega arith) (omega arith)
+    (decode_done a.d a.told a.octets.now a.bytes.now a.samples.now (omega arith) (omega arith)
     d.decode.ensures.answer n.if1.true)
-    d.decode.ensures.answer (t.store.ensures.left ∙ store-all _ _ (omega arith) ∙ ap pcmBytes d.decode.ensures.left)
+    d.decode.ensures.answer (t.store.ensures.left ∙ store_all _ _ (omega arith) ∙ ap pcm_bytes d.decode.ensures.left)
 
 returns-2 : tie.Need-returns-2
 returns-2 c =
     let d = c.before.before.before in
     let a = d.before.before.before.before.args in
     does
-    (decode-refused a.d a.told a.octets.now a.bytes.now a.samples.now (omega arith) (omega arith)
+    (decode_refused a.d a.told a.octets.now a.bytes.now a.samples.now (omega arith) (omega arith)
     d.decode.ensures.answer c.if1.false)
     d.decode.ensures.answer refl
 

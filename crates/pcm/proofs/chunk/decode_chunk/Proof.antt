@@ -4,23 +4,23 @@ use native.Mathlib.Omega.{arith}
 use borrow.Author.Tests.{not-true}
 use lib.Seq.{length-take-le}
 use Rattle.laws.specs.Outcome.{does}
-use Rattle.pcm.specs.Chunks.{notStored}
-use Rattle.pcm.proofs.Calls.{decode-untold, decode-long, decode-uneven, decode-broken}
+use Rattle.pcm.specs.Chunks.{not_stored}
+use Rattle.pcm.proofs.Calls.{decode_untold, decode_long, decode_uneven, decode_broken}
 use borrow.Author.Rules.{rules}
 use Rattle.pcm.proofs.chunk.decode_chunk.Statement.{statement}
 use Rattle.pcm.proofs.chunk.decode_chunk.Tie as tie
 
 returns : tie.Need-returns
-unfolding notStored
-returns c = does (decode-untold _ _ _ _ (omega arith)) c.not-decoded.ensures refl
+unfolding not_stored
+returns c = does (decode_untold _ _ _ _ (omega arith)) c.not-decoded.ensures refl
 
 returns-2 : tie.Need-returns-2
-unfolding notStored
-returns-2 c = does (decode-long _ _ _ _ (omega arith) (omega arith)) c.not-decoded2.ensures refl
+unfolding not_stored
+returns-2 c = does (decode_long _ _ _ _ (omega arith) (omega arith)) c.not-decoded2.ensures refl
 
 returns-3 : tie.Need-returns-3
-unfolding notStored
-returns-3 c = does (decode-uneven _ _ _ _ (omega arith) (omega arith) c.before.if3.true) c.not-decoded3.ensures refl
+unfolding not_stored
+returns-3 c = does (decode_uneven _ _ _ _ (omega arith) (omega arith) c.before.if3.true) c.not-decoded3.ensures refl
 
 -- the samples that a call borrows are two for each octet, in the short frame and in the long one
 slice-aggregate-decode-and-store : tie.Need-slice-aggregate-decode-and-store
@@ -31,12 +31,12 @@ decode-and-store-requires c κs = (length-take-le _ _ (omega arith), c.before.be
 
 -- a broken record, of a long call
 returns-5 : tie.Need-returns-5
-unfolding notStored
+unfolding not_stored
 returns-5 c =
     let t = c.before in
     let e = t.before.before.before in
     let bad = sym t.before.good-decoder.ensures ∙ not-true _ t.if5.true in
-    does (decode-broken _ _ _ _ (omega arith) (omega arith) e.if3.false bad)
+    does (decode_broken _ _ _ _ (omega arith) (omega arith) e.if3.false bad)
     c.not-decoded4.ensures refl
 
 slice-aggregate-decode-and-store-2 : tie.Need-slice-aggregate-decode-and-store-2

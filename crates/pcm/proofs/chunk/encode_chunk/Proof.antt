@@ -4,19 +4,19 @@ use native.Mathlib.Omega.{arith}
 use borrow.Author.Tests.{not-true}
 use lib.Seq.{length-take-le}
 use Rattle.laws.specs.Outcome.{does}
-use Rattle.g722.specs.Coding.{notCoded}
-use Rattle.pcm.proofs.Calls.{encode-long, encode-uneven, encode-even, encode-broken, part}
+use Rattle.g722.specs.Coding.{not_coded}
+use Rattle.pcm.proofs.Calls.{encode_long, encode_uneven, encode_even, encode_broken, part}
 use borrow.Author.Rules.{rules}
 use Rattle.pcm.proofs.chunk.encode_chunk.Statement.{statement}
 use Rattle.pcm.proofs.chunk.encode_chunk.Tie as tie
 
 returns : tie.Need-returns
-unfolding notCoded
-returns c = does (encode-long _ _ _ (omega arith)) c.not-coded.ensures refl
+unfolding not_coded
+returns c = does (encode_long _ _ _ (omega arith)) c.not-coded.ensures refl
 
 returns-2 : tie.Need-returns-2
-unfolding notCoded
-returns-2 c = does (encode-uneven _ _ _ c.before.if2.true) c.not-coded2.ensures refl
+unfolding not_coded
+returns-2 c = does (encode_uneven _ _ _ c.before.if2.true) c.not-coded2.ensures refl
 
 -- the samples that a call borrows are two for each octet, in the short frame and in the long one
 slice-aggregate-load-and-code : tie.Need-slice-aggregate-load-and-code
@@ -29,15 +29,15 @@ returns-3 : tie.Need-returns-3
 returns-3 c =
     let r = c.before.before.before in
     let e = r.before.before.before.before in
-    does (encode-even _ _ _ e.if2.false) r.load-and-code.ensures.answer r.load-and-code.ensures.left
+    does (encode_even _ _ _ e.if2.false) r.load-and-code.ensures.answer r.load-and-code.ensures.left
 
 -- a broken record, of a long call
 returns-4 : tie.Need-returns-4
-unfolding notCoded
+unfolding not_coded
 returns-4 c =
     let t = c.before in
     let e = t.before.before.before in
-    does (encode-broken _ _ _ (omega arith) e.if2.false (sym t.before.good-coder.ensures ∙ not-true _ t.if4.true))
+    does (encode_broken _ _ _ (omega arith) e.if2.false (sym t.before.good-coder.ensures ∙ not-true _ t.if4.true))
     c.not-coded3.ensures refl
 
 slice-aggregate-load-and-code-2 : tie.Need-slice-aggregate-load-and-code-2
@@ -50,7 +50,7 @@ returns-5 : tie.Need-returns-5
 returns-5 c =
     let r = c.before.before.before in
     let e = r.before.before.before.before.before.before in
-    does (encode-even _ _ _ e.if2.false) r.load-and-code2.ensures.answer r.load-and-code2.ensures.left
+    does (encode_even _ _ _ e.if2.false) r.load-and-code2.ensures.answer r.load-and-code2.ensures.left
 
 pub encode-chunk-spec : {M : Type 1} → statement M
 encode-chunk-spec =

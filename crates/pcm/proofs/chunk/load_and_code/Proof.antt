@@ -4,8 +4,8 @@ use mathlib.Core.List.{List}
 use native.Mathlib.Omega.{arith}
 use lib.IntN.{ℤ}
 use Rattle.laws.specs.Outcome.{does}
-use Rattle.g722.specs.Coding.{codeCall}
-use Rattle.big_endian.specs.Bytes.{load-all}
+use Rattle.g722.specs.Coding.{code_call}
+use Rattle.big_endian.specs.Bytes.{load_all}
 use borrow.Author.Rules.{rules}
 use Rattle.pcm.proofs.chunk.load_and_code.Statement.{statement}
 use Rattle.pcm.proofs.chunk.load_and_code.Tie as tie
@@ -15,8 +15,8 @@ returns c =
     let k = c.before.before in
     let l = k.before.before.before.before in
     let a = l.before.before.before.before.args in
-    let samples = sym (load-all a.bytes.now a.samples.now (omega arith)) ∙ sym l.load.ensures.left in
-    does (ap (λ (s : List ℤ). codeCall a.c s a.octets.now) samples)
+    let samples = sym (load_all a.bytes.now a.samples.now (omega arith)) ∙ sym l.load.ensures.left in
+    does (ap (λ (s : List ℤ). code_call a.c s a.octets.now) samples)
     k.code.ensures.answer k.code.ensures.left
 
 pub load-and-code-spec : {M : Type 1} → statement M

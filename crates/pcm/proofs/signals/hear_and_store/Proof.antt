@@ -2,16 +2,16 @@
 use mathlib.Core.Path.{refl, ◌∙◌}
 use native.Mathlib.Omega.{arith}
 use Rattle.laws.specs.Outcome.{does}
-use Rattle.g722.specs.Steps.{hearCall}
-use Rattle.big_endian.specs.Bytes.{store-all}
-use Rattle.pcm.specs.Signals.{bothAsBytes}
-use Rattle.pcm.proofs.Steps.{hear-done, hear-refused, both_stored}
+use Rattle.g722.specs.Steps.{hear_call}
+use Rattle.big_endian.specs.Bytes.{store_all}
+use Rattle.pcm.specs.Signals.{both_as_bytes}
+use Rattle.pcm.proofs.Steps.{hear_done, hear_refused, both_stored}
 use borrow.Author.Rules.{rules}
 use Rattle.pcm.proofs.signals.hear_and_store.Statement.{statement}
 use Rattle.pcm.proofs.signals.hear_and_store.Tie as tie
 
 returns : tie.Need-returns
-unfolding bothAsBytes
+unfolding both_as_bytes
 returns c =
     let s = c.before.before in
     let f = s.before.before.before.before.before in
@@ -19,13 +19,13 @@ returns c =
     let d = t.before.before.before.before in
     let g = d.before.before.before.before.before.before in
     let a = g.args in
-    let low = f.store.ensures.left ∙ store-all _ _ (omega (arith, g.requires, t.before.before.before.rl.given)) in
-    let high = s.store2.ensures.left ∙ store-all _ _ (omega (arith, g.requires, t.before.before.rh.given)) in
+    let low = f.store.ensures.left ∙ store_all _ _ (omega (arith, g.requires, t.before.before.before.rl.given)) in
+    let high = s.store2.ensures.left ∙ store_all _ _ (omega (arith, g.requires, t.before.before.rh.given)) in
     does
-    (hear-done a.d a.told a.octets.now a.low.now a.high.now a.rl.now a.rh.now
+    (hear_done a.d a.told a.octets.now a.low.now a.high.now a.rl.now a.rh.now
     g.requires.0 g.requires.1 g.requires.2 g.requires.3 d.hear.ensures.answer t.if1.true)
     d.hear.ensures.answer
-    (both_stored {p = (hearCall a.d a.told a.octets.now a.rl.now a.rh.now).left} d.hear.ensures.left low high)
+    (both_stored {p = (hear_call a.d a.told a.octets.now a.rl.now a.rh.now).left} d.hear.ensures.left low high)
 
 returns-2 : tie.Need-returns-2
 returns-2 c =
@@ -33,7 +33,7 @@ returns-2 c =
     let g = d.before.before.before.before.before.before in
     let a = g.args in
     does
-    (hear-refused a.d a.told a.octets.now a.low.now a.high.now a.rl.now a.rh.now
+    (hear_refused a.d a.told a.octets.now a.low.now a.high.now a.rl.now a.rh.now
     g.requires.0 g.requires.1 g.requires.2 g.requires.3 d.hear.ensures.answer c.if1.false)
     d.hear.ensures.answer refl
 

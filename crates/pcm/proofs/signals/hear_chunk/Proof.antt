@@ -6,21 +6,21 @@ use borrow.Author.Tests.{not-true}
 use lib.ListN.{length}
 use lib.Seq.{length-take-le}
 use Rattle.laws.specs.Outcome.{does}
-use Rattle.pcm.specs.Signals.{notHeardBytes}
-use Rattle.pcm.proofs.Steps.{fits, hear-untold, hear-unfit, hear-broken}
+use Rattle.pcm.specs.Signals.{not_heard_bytes}
+use Rattle.pcm.proofs.Steps.{fits, hear_untold, hear_unfit, hear_broken}
 use borrow.Author.Rules.{rules}
 use Rattle.pcm.proofs.signals.hear_chunk.Statement.{statement}
 use Rattle.pcm.proofs.signals.hear_chunk.Tie as tie
 
 returns : tie.Need-returns
-unfolding notHeardBytes
-returns c = does (hear-untold _ _ _ _ _ (omega arith)) c.not-decoded.ensures refl
+unfolding not_heard_bytes
+returns c = does (hear_untold _ _ _ _ _ (omega arith)) c.not-decoded.ensures refl
 
 returns-2 : tie.Need-returns-2
-unfolding notHeardBytes
+unfolding not_heard_bytes
 returns-2 c =
     let t = c.before in
-    does (hear-unfit _ _ _ _ _ (omega arith) (sym t.before.unpaired.ensures ∙ t.if2.true)) c.not-decoded2.ensures refl
+    does (hear_unfit _ _ _ _ _ (omega arith) (sym t.before.unpaired.ensures ∙ t.if2.true)) c.not-decoded2.ensures refl
 
 -- lengths that fit
 fit : (e : tie.Else2) → let a = e.before.before.before.before.before.before.args in
@@ -42,12 +42,12 @@ short c κs =
 
 -- a broken record, of a long call
 returns-4 : tie.Need-returns-4
-unfolding notHeardBytes
+unfolding not_heard_bytes
 returns-4 c =
     let t = c.before in
     let e = t.before.before.before in
     does
-    (hear-broken _ _ _ _ _ (omega arith) (sym e.before.unpaired.ensures ∙ e.if2.false)
+    (hear_broken _ _ _ _ _ (omega arith) (sym e.before.unpaired.ensures ∙ e.if2.false)
     (sym t.before.good-decoder.ensures ∙ not-true _ t.if4.true))
     c.not-decoded3.ensures refl
 

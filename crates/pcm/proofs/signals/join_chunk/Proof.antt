@@ -7,22 +7,22 @@ use borrow.Author.Tests.{not-true}
 use lib.ListN.{length}
 use lib.Seq.{length-take-le}
 use Rattle.laws.specs.Outcome.{does}
-use Rattle.pcm.specs.Chunks.{notStored}
-use Rattle.pcm.specs.Signals.{unpairedBytes}
-use Rattle.pcm.proofs.Steps.{fits, parts, join-unfit, join-uneven, join-broken}
+use Rattle.pcm.specs.Chunks.{not_stored}
+use Rattle.pcm.specs.Signals.{unpaired_bytes}
+use Rattle.pcm.proofs.Steps.{fits, parts, join_unfit, join_uneven, join_broken}
 use borrow.Author.Rules.{rules}
 use Rattle.pcm.proofs.signals.join_chunk.Statement.{statement}
 use Rattle.pcm.proofs.signals.join_chunk.Tie as tie
 
 returns : tie.Need-returns
-unfolding notStored
+unfolding not_stored
 returns c =
     let t = c.before in
-    does (join-unfit _ _ _ _ (sym t.before.unpaired.ensures ∙ t.if1.true)) c.not-decoded.ensures refl
+    does (join_unfit _ _ _ _ (sym t.before.unpaired.ensures ∙ t.if1.true)) c.not-decoded.ensures refl
 
 -- lengths that fit
 fit : (e : tie.Else1) → let a = e.before.before.before.before.before.args in
-    unpairedBytes (length a.low.now / 2) (length a.low.now) (length a.high.now) ≡ false
+    unpaired_bytes (length a.low.now / 2) (length a.low.now) (length a.high.now) ≡ false
 fit e = sym e.before.unpaired.ensures ∙ e.if1.false
 
 few : (e : tie.Else1) → let a = e.before.before.before.before.before.args in length a.low.now / 2 ≤ 8000
@@ -32,8 +32,8 @@ mul-if2 : tie.Need-overflow-mul-if2
 mul-if2 c = omega (arith, few c)
 
 returns-2 : tie.Need-returns-2
-unfolding notStored
-returns-2 c = let t = c.before in does (join-uneven _ _ _ _ (fit t.before) t.if2.true) c.not-decoded2.ensures refl
+unfolding not_stored
+returns-2 c = let t = c.before in does (join_uneven _ _ _ _ (fit t.before) t.if2.true) c.not-decoded2.ensures refl
 
 -- the signals that a call borrows are one for each pair, and the samples two, in the short frames and in the long ones
 slice-l : tie.Need-slice-aggregate-load-and-join
@@ -53,12 +53,12 @@ short c κs =
 
 -- a broken record, of a long call
 returns-4 : tie.Need-returns-4
-unfolding notStored
+unfolding not_stored
 returns-4 c =
     let t = c.before in
     let e = t.before.before.before in
     does
-    (join-broken _ _ _ _ (fit e.before) e.if2.false (sym t.before.good-decoder.ensures ∙ not-true _ t.if4.true))
+    (join_broken _ _ _ _ (fit e.before) e.if2.false (sym t.before.good-decoder.ensures ∙ not-true _ t.if4.true))
     c.not-decoded3.ensures refl
 
 prefix-l : tie.Need-array-borrow-prefix-l-2

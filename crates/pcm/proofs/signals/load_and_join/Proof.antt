@@ -5,10 +5,10 @@ use native.Mathlib.Omega.{arith}
 use lib.IntN.{ℤ}
 use lib.ListN.{length}
 use Rattle.laws.specs.Outcome.{Does, does}
-use Rattle.g722.specs.Steps.{joinCall}
-use Rattle.big_endian.specs.Bytes.{pcmSamples, pcmBytes, load-all, store-all}
-use Rattle.pcm.specs.Chunks.{asBytes}
-use Rattle.pcm.proofs.Steps.{join-done, join-refused}
+use Rattle.g722.specs.Steps.{join_call}
+use Rattle.big_endian.specs.Bytes.{pcm_samples, pcm_bytes, load_all, store_all}
+use Rattle.pcm.specs.Chunks.{as_bytes}
+use Rattle.pcm.proofs.Steps.{join_done, join_refused}
 use borrow.Author.Rules.{rules}
 use Rattle.pcm.proofs.signals.load_and_join.Statement.{statement}
 use Rattle.pcm.proofs.signals.load_and_join.Tie as tie
@@ -18,17 +18,17 @@ began j = j.before.before.before.before.before.before.before.before.before.befor
 
 -- the call on the signals that the bytes are
 did : (j : tie.After-join) → let a = (began j).args in
-    Does (joinCall a.d (pcmSamples a.low.now) (pcmSamples a.high.now) a.x.now) j.join.result j.join.new.1.1.1.0
+    Does (join_call a.d (pcm_samples a.low.now) (pcm_samples a.high.now) a.x.now) j.join.result j.join.new.1.1.1.0
 did j =
     let g = j.before.before.before.before.before in
     let f = g.before.before.before in
     let a = (began j).args in
-    let low = f.load.ensures.left ∙ load-all a.low.now a.rl.now (omega arith) in
-    let high = g.load2.ensures.left ∙ load-all a.high.now a.rh.now (omega arith) in
-    does (ap₂ (λ (x y : List ℤ). joinCall a.d x y a.x.now) (sym low) (sym high)) j.join.ensures.answer j.join.ensures.left
+    let low = f.load.ensures.left ∙ load_all a.low.now a.rl.now (omega arith) in
+    let high = g.load2.ensures.left ∙ load_all a.high.now a.rh.now (omega arith) in
+    does (ap₂ (λ (x y : List ℤ). join_call a.d x y a.x.now) (sym low) (sym high)) j.join.ensures.answer j.join.ensures.left
 
 returns : tie.Need-returns
-unfolding asBytes
+unfolding as_bytes
 returns c =
     let s = c.before.before in
     let t = s.before.before.before in
@@ -36,9 +36,9 @@ returns c =
     let g = began j in
     let a = g.args in
     does
-    (join-done a.d a.low.now a.high.now a.samples.now (length a.rl.now) a.x.now
+    (join_done a.d a.low.now a.high.now a.samples.now (length a.rl.now) a.x.now
     g.pre.0 g.pre.1 g.pre.4 g.pre.3 (did j).answer t.if1.true)
-    (did j).answer (s.store.ensures.left ∙ store-all _ _ (omega (arith, g.pre)) ∙ ap pcmBytes (did j).left)
+    (did j).answer (s.store.ensures.left ∙ store_all _ _ (omega (arith, g.pre)) ∙ ap pcm_bytes (did j).left)
 
 returns-2 : tie.Need-returns-2
 returns-2 c =
@@ -46,7 +46,7 @@ returns-2 c =
     let g = began j in
     let a = g.args in
     does
-    (join-refused a.d a.low.now a.high.now a.samples.now (length a.rl.now) a.x.now
+    (join_refused a.d a.low.now a.high.now a.samples.now (length a.rl.now) a.x.now
     g.pre.0 g.pre.1 g.pre.4 g.pre.3 (did j).answer c.if1.false)
     (did j).answer refl
 

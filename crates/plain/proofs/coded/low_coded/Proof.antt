@@ -2,20 +2,20 @@
 use mir.Facts.{to_z-of_z}
 use Rattle.laws.specs.Back.{back16, got16}
 use mathlib.Core.Path.{◌∙◌}
-use Rattle.g722.specs.Band.{lowAfter}
-use Rattle.g722.specs.Quantise.{quantl, invqal, lowFactors}
-use Rattle.plain.specs.Step.{lowCoded}
-use Rattle.plain.proofs.Laws.{band-coded}
+use Rattle.g722.specs.Band.{low_after}
+use Rattle.g722.specs.Quantise.{quantl, invqal, low_factors}
+use Rattle.plain.specs.Step.{low_coded}
+use Rattle.plain.proofs.Laws.{band_coded}
 use Rattle.plain.proofs.coded.low_coded.Statement.{statement}
 use Rattle.plain.proofs.coded.low_coded.Tie as tie
 
 returns : tie.Need-returns
-unfolding lowCoded lowAfter
+unfolding low_coded low_after
 returns c =
     let coded = c.before.before.before in
     let e = coded.before.before in
     let s = e.before.before.before.before in
-    band-coded quantl invqal lowFactors s.args.s s.args.x e.before.estimate.ensures
+    band_coded quantl invqal low_factors s.args.s s.args.x e.before.estimate.ensures
     (back16 e.before.estimate.result.s e.struct-told2.given.1.0.1)
     (back16 s.args.s.factors.scale e.before.before.struct_told.given.1.0.1)
     (to_z-of_z s.ranges.x) (got16 coded.before.sub ∙ coded.before.sub.ensures) coded.quantl.ensures

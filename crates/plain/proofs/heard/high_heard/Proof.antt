@@ -2,16 +2,16 @@
 use mathlib.Core.Path.{ap, ◌∙◌}
 use Rattle.laws.specs.Back.{back16, got16, got32}
 use Rattle.g722.specs.Octet.{high_word}
-use Rattle.g722.specs.Quantise.{invqah, highFactors}
-use Rattle.g722.specs.Band.{highAfter}
-use Rattle.g722.specs.Decoding.{yhOf}
-use Rattle.plain.specs.Step.{highHeard}
-use Rattle.plain.proofs.Laws.{band-heard}
+use Rattle.g722.specs.Quantise.{invqah, high_factors}
+use Rattle.g722.specs.Band.{high_after}
+use Rattle.g722.specs.Decoding.{yh_of}
+use Rattle.plain.specs.Step.{high_heard}
+use Rattle.plain.proofs.Laws.{band_heard}
 use Rattle.plain.proofs.heard.high_heard.Statement.{statement}
 use Rattle.plain.proofs.heard.high_heard.Tie as tie
 
 returns : tie.Need-returns
-unfolding highHeard yhOf highAfter
+unfolding high_heard yh_of high_after
 returns c =
     let l = c.before.before in
     let a = l.before.before in
@@ -21,7 +21,7 @@ returns c =
     let ih = high_word s.args.o in
     let scale = back16 band.factors.scale q.before.before.struct_told.given.1.0.1 in
     let d = got16 q.invqah ∙ q.invqah.ensures ∙ ap (invqah ih) scale in
-    band-heard band (invqah ih band.factors.scale) (invqah ih band.factors.scale) (highFactors band.factors ih)
+    band_heard band (invqah ih band.factors.scale) (invqah ih band.factors.scale) (high_factors band.factors ih)
     q.before.estimate.ensures
     (back16 q.before.estimate.result.s a.before.struct-told2.given.1.0.1)
     d

@@ -2,16 +2,16 @@
 use mathlib.Core.Path.{ap, ◌∙◌}
 use Rattle.laws.specs.Back.{back16, got16, got32}
 use Rattle.g722.specs.Octet.{low_word}
-use Rattle.g722.specs.Quantise.{invqbl, invqal, lowFactors}
-use Rattle.g722.specs.Band.{lowAfter}
-use Rattle.g722.specs.Decoding.{ylOf}
-use Rattle.plain.specs.Step.{lowHeard}
-use Rattle.plain.proofs.Laws.{band-heard}
+use Rattle.g722.specs.Quantise.{invqbl, invqal, low_factors}
+use Rattle.g722.specs.Band.{low_after}
+use Rattle.g722.specs.Decoding.{yl_of}
+use Rattle.plain.specs.Step.{low_heard}
+use Rattle.plain.proofs.Laws.{band_heard}
 use Rattle.plain.proofs.heard.low_heard.Statement.{statement}
 use Rattle.plain.proofs.heard.low_heard.Tie as tie
 
 returns : tie.Need-returns
-unfolding lowHeard ylOf lowAfter
+unfolding low_heard yl_of low_after
 returns c =
     let l = c.before.before.before in
     let a = l.before.before in
@@ -20,7 +20,7 @@ returns c =
     let band = s.args.s in
     let il = low_word s.args.o in
     let scale = back16 band.factors.scale q.before.before.struct_told.given.1.0.1 in
-    band-heard band (invqbl s.args.mode il band.factors.scale) (invqal il band.factors.scale) (lowFactors band.factors il)
+    band_heard band (invqbl s.args.mode il band.factors.scale) (invqal il band.factors.scale) (low_factors band.factors il)
     q.before.estimate.ensures
     (back16 q.before.estimate.result.s a.before.struct-told2.given.1.0.1)
     (got16 q.invqbl ∙ q.invqbl.ensures ∙ ap (invqbl s.args.mode il) scale)

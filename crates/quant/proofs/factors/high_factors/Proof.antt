@@ -1,12 +1,12 @@
 -- `quant::high_factors` meets its contract, by those of its calls.
 use mathlib.Core.Path.{◌∙◌}
 use Rattle.laws.specs.Back.{got16, back16}
-use Rattle.g722.specs.Quantise.{highFactors}
+use Rattle.g722.specs.Quantise.{high_factors}
 use Rattle.quant.proofs.factors.high_factors.Statement.{statement}
 use Rattle.quant.proofs.factors.high_factors.Tie as tie
 
 returns : tie.Need-returns
-unfolding highFactors
+unfolding high_factors
 returns c =
     let s = c.before.before in
     rw (

@@ -1,12 +1,12 @@
 -- `quant::low_factors` meets its contract, by those of its calls.
 use mathlib.Core.Path.{◌∙◌}
 use Rattle.laws.specs.Back.{got16, back16}
-use Rattle.g722.specs.Quantise.{lowFactors}
+use Rattle.g722.specs.Quantise.{low_factors}
 use Rattle.quant.proofs.factors.low_factors.Statement.{statement}
 use Rattle.quant.proofs.factors.low_factors.Tie as tie
 
 returns : tie.Need-returns
-unfolding lowFactors
+unfolding low_factors
 returns c =
     let s = c.before.before in
     rw (

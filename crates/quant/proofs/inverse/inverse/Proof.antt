@@ -9,28 +9,28 @@ use mir.Facts.{to_z-of_z}
 use Rattle.laws.specs.Back.{got16, got32}
 use Rattle.g722.specs.Arithmetic.{neg}
 use Rattle.quant.specs.Unstopped.{mul_comm}
-use Rattle.quant.proofs.Laws.{eight-small, eight_fits, eight-sfits, eight-read, signed-small, small-fits, mul-fits}
+use Rattle.quant.proofs.Laws.{eight_small, eight_fits, eight_sfits, eight_read, signed_small, small_fits, mul_fits}
 use Rattle.quant.proofs.inverse.inverse.Statement.{statement}
 use Rattle.quant.proofs.inverse.inverse.Tie as tie
 
 sub-pick : tie.Need-overflow-sub-pick
 sub-pick c =
     let n = c.args.q * 8 in
-    rw (eight-read c.args.q c.requires, +ℤ_idl (neg n)) (small-fits (signed-small true n (eight-small c.args.q c.requires)))
+    rw (eight_read c.args.q c.requires, +ℤ_idl (neg n)) (small_fits (signed_small true n (eight_small c.args.q c.requires)))
 
 picked : (c : tie.After-pick)
     → let a = c.before.args in to_z w16 (of_z w16 c.pick.result) ≡ cond a.negative (neg (a.q * 8)) (pos (a.q * 8))
 picked c =
     let s = c.before in
-    rw (got16 c.pick ∙ c.pick.ensures, to_z-of_z (sub-pick s), eight-read s.args.q s.requires, +ℤ_idl (neg (s.args.q * 8)))
+    rw (got16 c.pick ∙ c.pick.ensures, to_z-of_z (sub-pick s), eight_read s.args.q s.requires, +ℤ_idl (neg (s.args.q * 8)))
 
 product-requires : tie.Need-product-requires
 product-requires c κs =
     let s = c.before in
-    rw (picked c) (signed-small s.args.negative (s.args.q * 8) (eight-small s.args.q s.requires))
+    rw (picked c) (signed_small s.args.negative (s.args.q * 8) (eight_small s.args.q s.requires))
 
 cast-result : tie.Need-overflow-cast-result
-cast-result c = rw (got32 c.product ∙ c.product.ensures) (mul-fits _ _)
+cast-result c = rw (got32 c.product ∙ c.product.ensures) (mul_fits _ _)
 
 returns : tie.Need-returns
 returns c =
@@ -46,7 +46,7 @@ inverse-spec =
     tie.close
     (tie.spec
     (λ c. eight_fits c.args.q c.requires)
-    (λ c. eight-sfits c.args.q c.requires)
+    (λ c. eight_sfits c.args.q c.requires)
     sub-pick
     (λ c κs. tt)
     product-requires

@@ -3,12 +3,12 @@ use mathlib.Core.Path.{◌∙◌}
 use mir.Facts.{to_z-of_z}
 use Rattle.laws.specs.Back.{got16}
 use Rattle.g722.specs.Quantise.{inverse, invqah}
-use Rattle.tables.specs.Entries.{qq2-small}
+use Rattle.tables.specs.Entries.{qq2_small}
 use Rattle.quant.proofs.inverse.invqah.Statement.{statement}
 use Rattle.quant.proofs.inverse.invqah.Tie as tie
 
 inverse-requires : tie.Need-inverse-requires
-inverse-requires c κs = rw c.qq2-at.ensures (qq2-small c.before.from-two.result.number)
+inverse-requires c κs = rw c.qq2-at.ensures (qq2_small c.before.from-two.result.number)
 
 returns : tie.Need-returns
 unfolding inverse invqah

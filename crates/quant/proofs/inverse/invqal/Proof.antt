@@ -3,12 +3,12 @@ use mathlib.Core.Path.{◌∙◌}
 use mir.Facts.{to_z-of_z}
 use Rattle.laws.specs.Back.{got16}
 use Rattle.g722.specs.Quantise.{inverse, invqal}
-use Rattle.tables.specs.Entries.{qq4-small}
+use Rattle.tables.specs.Entries.{qq4_small}
 use Rattle.quant.proofs.inverse.invqal.Statement.{statement}
 use Rattle.quant.proofs.inverse.invqal.Tie as tie
 
 inverse-requires : tie.Need-inverse-requires
-inverse-requires c κs = rw c.qq4-at.ensures (qq4-small c.before.from-four.result.number)
+inverse-requires c κs = rw c.qq4-at.ensures (qq4_small c.before.from-four.result.number)
 
 returns : tie.Need-returns
 unfolding inverse invqal

@@ -4,15 +4,15 @@ use mathlib.Core.Path.{◌∙◌}
 use mir.Facts.{to_z-of_z}
 use Rattle.laws.specs.Back.{got16}
 use Rattle.g722.specs.Quantise.{inverse, invqal, invqbl}
-use Rattle.tables.specs.Entries.{qq6-small, qq5-small}
+use Rattle.tables.specs.Entries.{qq6_small, qq5_small}
 use Rattle.quant.proofs.inverse.invqbl.Statement.{statement}
 use Rattle.quant.proofs.inverse.invqbl.Tie as tie
 
 inverse-requires : tie.Need-inverse-requires
-inverse-requires c κs = rw c.qq6-at.ensures (qq6-small c.before.from-six.result.number)
+inverse-requires c κs = rw c.qq6-at.ensures (qq6_small c.before.from-six.result.number)
 
 inverse-requires-2 : tie.Need-inverse-requires-2
-inverse-requires-2 c κs = rw c.qq5-at.ensures (qq5-small c.before.from-five.result.number)
+inverse-requires-2 c κs = rw c.qq5-at.ensures (qq5_small c.before.from-five.result.number)
 
 returns : tie.Need-returns
 unfolding inverse invqbl

@@ -3,22 +3,22 @@ use native.Mathlib.Omega.{arith}
 use borrow.Author.Rules.{rules}
 use mir.Facts.{to_z-of_z}
 use Rattle.laws.specs.Back.{widened}
-use Rattle.quant.proofs.Laws.{i32-read, level-product-fits}
-use Rattle.quant.proofs.Counting.{level-test}
+use Rattle.quant.proofs.Laws.{i32_read, level_product_fits}
+use Rattle.quant.proofs.Counting.{level_test}
 use Rattle.quant.proofs.levels.below.Statement.{statement}
 use Rattle.quant.proofs.levels.below.Tie as tie
 
 add-result : tie.Need-overflow-add-result
-add-result c = rw (i32-read c.ranges.size) (record { sfits = omega arith })
+add-result c = rw (i32_read c.ranges.size) (record { sfits = omega arith })
 
 mul-result : tie.Need-overflow-mul-result
-mul-result c = rw (to_z-of_z (add-result c), i32-read c.ranges.size) (record { sfits = omega arith })
+mul-result c = rw (to_z-of_z (add-result c), i32_read c.ranges.size) (record { sfits = omega arith })
 
 mul-result-2 : tie.Need-overflow-mul-result-2
 mul-result-2 c =
     let s = c.before in
-    rw (i32-read s.ranges.q, widened c.wide.type-inv c.wide.ensures s.ranges.scale)
-    (level-product-fits s.args.q s.requires s.ranges.scale)
+    rw (i32_read s.ranges.q, widened c.wide.type-inv c.wide.ensures s.ranges.scale)
+    (level_product_fits s.args.q s.requires s.ranges.scale)
 
 returns : tie.Need-returns
 returns c =
@@ -27,10 +27,10 @@ returns c =
       to_z-of_z (mul-result s),
       to_z-of_z (add-result s),
       to_z-of_z (mul-result-2 c),
-      i32-read s.ranges.size,
-      i32-read s.ranges.q,
+      i32_read s.ranges.size,
+      i32_read s.ranges.q,
       widened c.wide.type-inv c.wide.ensures s.ranges.scale,
-    ) (level-test s.args.size s.args.q s.args.scale s.requires s.ranges.scale)
+    ) (level_test s.args.size s.args.q s.args.scale s.requires s.ranges.scale)
 
 pub below-spec : {M : Type 1} → statement M
 below-spec =

@@ -5,20 +5,20 @@ use Prim.Native.Nat.{◌+◌}
 use lib.Dec.{lit<}
 use mir.Facts.{to_z-of_z}
 use Rattle.g722.specs.Tables.{q2}
-use Rattle.g722.specs.Quantise.{level, atOrBelow}
+use Rattle.g722.specs.Quantise.{level, at_or_below}
 use Rattle.quant.proofs.Counting.{counted, passed}
 use Rattle.quant.proofs.levels.high_interval.Statement.{statement}
 use Rattle.quant.proofs.levels.high_interval.Tie as tie
 
 returns : tie.Need-returns
-unfolding q2 atOrBelow
+unfolding q2 at_or_below
 returns c =
     let s = c.before.before in
     let t = rw (to_z-of_z s.ranges.scale) at (sym c.before.below.ensures ∙ c.if1.true) in
     ap (λ n. 1 + n) (sym (passed s.args.size (level s.args.scale 564) [] t))
 
 returns-2 : tie.Need-returns-2
-unfolding q2 atOrBelow
+unfolding q2 at_or_below
 returns-2 c =
     let s = c.before.before in
     let t = rw (to_z-of_z s.ranges.scale) at (sym c.before.below.ensures ∙ c.if1.false) in

@@ -6,7 +6,7 @@ use mir.Syntax.{w16}
 use mir.Val.{to_z, of_z}
 use mir.Facts.{to_z-of_z}
 use Rattle.g722.specs.Tables.{q6}
-use Rattle.tables.specs.Entries.{q6-small}
+use Rattle.tables.specs.Entries.{q6_small}
 use Rattle.quant.proofs.Counting.{Counted, end, on, over}
 use Rattle.quant.proofs.levels.search.Statement.{statement}
 use Rattle.quant.proofs.levels.search.Tie as tie
@@ -42,7 +42,7 @@ returns-2 c =
 
 below-requires : tie.Need-below-requires invariant-loop decreases-loop
 unfolding q6
-below-requires c κs = q6-small c.before.loop.i
+below-requires c κs = q6_small c.before.loop.i
 
 pub search-spec : {M : Type 1} → statement M
 search-spec =

@@ -8,9 +8,9 @@ use lib.Signed.{mag}
 use mir.Syntax.{w16}
 use mir.Val.{to_z, of_z}
 use Rattle.laws.specs.Back.{back16}
-use Rattle.big_endian.specs.Bytes.{pcmSamples}
+use Rattle.big_endian.specs.Bytes.{pcm_samples}
 use Rattle.state.specs.Layout.{value}
-use Rattle.state.proofs.Laws.{values-at, band-read}
+use Rattle.state.proofs.Laws.{values_at, band_read}
 use borrow.Author.Rules.{rules}
 use Rattle.state.proofs.read.band.Statement.{statement}
 use Rattle.state.proofs.read.band.Tie as tie
@@ -42,10 +42,10 @@ returns c =
       };
       factors = record { log = at 6 t6.t46.given i; scale = at 7 c.t49.given i };
     })
-    ∙ band-read (pcmSamples s)
-    (values-at 0 6 (replicate 6 (pos 0)) s (omega arith) refl l1.load.ensures.left)
-    (values-at 6 6 (replicate 6 (pos 0)) s (omega arith) refl l2.load2.ensures.left)
-    (values-at 12 8 (replicate 8 (pos 0)) s (omega arith) refl l3.load3.ensures.left)
+    ∙ band_read (pcm_samples s)
+    (values_at 0 6 (replicate 6 (pos 0)) s (omega arith) refl l1.load.ensures.left)
+    (values_at 6 6 (replicate 6 (pos 0)) s (omega arith) refl l2.load2.ensures.left)
+    (values_at 12 8 (replicate 8 (pos 0)) s (omega arith) refl l3.load3.ensures.left)
 
 pub band-spec : {M : Type 1} → statement M
 band-spec =

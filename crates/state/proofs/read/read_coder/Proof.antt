@@ -6,8 +6,8 @@ use lib.IntN.{pos}
 use lib.ListN.{length, replicate}
 use borrow.Author.Tests.{not-true, not-false}
 use Rattle.state.specs.Layout.{holds}
-use Rattle.state.specs.Reset.{held-length}
-use Rattle.state.proofs.Laws.{values-behind, coder-read, no-coder}
+use Rattle.state.specs.Reset.{held_length}
+use Rattle.state.proofs.Laws.{values_behind, coder_read, no_coder_lem}
 use borrow.Author.Rules.{rules}
 use Rattle.state.proofs.read.read_coder.Statement.{statement}
 use Rattle.state.proofs.read.read_coder.Tie as tie
@@ -15,14 +15,14 @@ use Rattle.state.proofs.read.read_coder.Tie as tie
 returns : tie.Need-returns
 returns c =
     let t = c.before.before in
-    no-coder _ c.before.reset-band.ensures c.reset-band2.ensures (sym t.before.holds.ensures ∙ not-true _ t.if1.true)
+    no_coder_lem _ c.before.reset-band.ensures c.reset-band2.ensures (sym t.before.holds.ensures ∙ not-true _ t.if1.true)
 
 -- past the test
 held : (e : tie.Else1) → holds 1 e.before.before.before.args.state.now ≡ true
 held e = sym e.before.holds.ensures ∙ not-false _ e.if1.false
 
 long : (e : tie.Else1) → length e.before.before.before.args.state.now ≡ 125
-long e = held-length 1 _ (held e)
+long e = held_length 1 _ (held e)
 
 returns-2 : tie.Need-returns-2
 returns-2 c =
@@ -31,8 +31,8 @@ returns-2 c =
     let e = l.before.before.before in
     let s = e.before.before.before.args.state.now in
     let n = long e in
-    coder-read s b.band.ensures c.band2.ensures (held e)
-    (values-behind 40 22 (replicate 22 (pos 0)) s (omega arith) refl l.load.ensures.left)
+    coder_read s b.band.ensures c.band2.ensures (held e)
+    (values_behind 40 22 (replicate 22 (pos 0)) s (omega arith) refl l.load.ensures.left)
 
 pub read-coder-spec : {M : Type 1} → statement M
 read-coder-spec =

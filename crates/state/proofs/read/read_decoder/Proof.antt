@@ -6,8 +6,8 @@ use borrow.Author.Tests.{not-true, not-false}
 use lib.IntN.{pos}
 use lib.ListN.{length, replicate}
 use Rattle.state.specs.Layout.{holds}
-use Rattle.state.specs.Reset.{held-length}
-use Rattle.state.proofs.Laws.{values-behind, decoder-read, no-decoder}
+use Rattle.state.specs.Reset.{held_length}
+use Rattle.state.proofs.Laws.{values_behind, decoder_read, no_decoder_lem}
 use borrow.Author.Rules.{rules}
 use Rattle.state.proofs.read.read_decoder.Statement.{statement}
 use Rattle.state.proofs.read.read_decoder.Tie as tie
@@ -15,14 +15,14 @@ use Rattle.state.proofs.read.read_decoder.Tie as tie
 returns : tie.Need-returns
 returns c =
     let t = c.before.before in
-    no-decoder _ c.before.reset-band.ensures c.reset-band2.ensures (sym t.before.holds.ensures ∙ not-true _ t.if1.true)
+    no_decoder_lem _ c.before.reset-band.ensures c.reset-band2.ensures (sym t.before.holds.ensures ∙ not-true _ t.if1.true)
 
 -- past the test
 held : (e : tie.Else1) → holds 2 e.before.before.before.args.state.now ≡ true
 held e = sym e.before.holds.ensures ∙ not-false _ e.if1.false
 
 long : (e : tie.Else1) → length e.before.before.before.args.state.now ≡ 125
-long e = held-length 2 _ (held e)
+long e = held_length 2 _ (held e)
 
 returns-2 : tie.Need-returns-2
 returns-2 c =
@@ -32,9 +32,9 @@ returns-2 c =
     let e = l.before.before.before in
     let s = e.before.before.before.args.state.now in
     let n = long e in
-    decoder-read s b.band.ensures c.band2.ensures (held e)
-    (values-behind 40 11 (replicate 11 (pos 0)) s (omega arith) refl l.load.ensures.left)
-    (values-behind 51 11 (replicate 11 (pos 0)) s (omega arith) refl m.load2.ensures.left)
+    decoder_read s b.band.ensures c.band2.ensures (held e)
+    (values_behind 40 11 (replicate 11 (pos 0)) s (omega arith) refl l.load.ensures.left)
+    (values_behind 51 11 (replicate 11 (pos 0)) s (omega arith) refl m.load2.ensures.left)
 
 pub read-decoder-spec : {M : Type 1} → statement M
 read-decoder-spec =

@@ -8,8 +8,8 @@ use lib.ListN.{length}
 use borrow.Author.Rules.{rules}
 use borrow.Rule.Slice.PartMut.{mid_of, put_mid}
 use Rattle.laws.specs.Back.{back16}
-use Rattle.big_endian.specs.Bytes.{storeCall}
-use Rattle.state.proofs.Laws.{Front, stored, band-written}
+use Rattle.big_endian.specs.Bytes.{store_call}
+use Rattle.state.proofs.Laws.{Front, stored, band_written}
 use Rattle.state.proofs.write.write_band.Statement.{statement}
 use Rattle.state.proofs.write.write_band.Tie as tie
 
@@ -44,8 +44,8 @@ returns c =
     ∷ back16 s.factors.log h.0.1 i
     ∷ back16 s.factors.scale h.1.0.1 i
     ∷ [] in
-    let last = s3.store3.ensures.left ∙ ap (λ (v : List ℤ). (storeCall v (mid_of 24 16 behind)).left) rest in
-    band-written s (stored 24 40 _ f2 (omega arith) (omega arith) refl last)
+    let last = s3.store3.ensures.left ∙ ap (λ (v : List ℤ). (store_call v (mid_of 24 16 behind)).left) rest in
+    band_written s (stored 24 40 _ f2 (omega arith) (omega arith) refl last)
 
 pub write-band-spec : {M : Type 1} → statement M
 write-band-spec =

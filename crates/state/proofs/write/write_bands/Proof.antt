@@ -6,8 +6,8 @@ use native.Mathlib.Omega.{arith}
 use lib.ListN.{length, set, length-set}
 use borrow.Author.Rules.{rules}
 use borrow.Rule.Slice.PartMut.{put_mid}
-use Rattle.big_endian.specs.Bytes.{bytes-join}
-use Rattle.state.specs.Layout.{bandValues}
+use Rattle.big_endian.specs.Bytes.{bytes_join}
+use Rattle.state.specs.Layout.{band_values}
 use Rattle.state.proofs.Laws.{Front, first, further}
 use Rattle.state.proofs.write.write_bands.Statement.{statement}
 use Rattle.state.proofs.write.write_bands.Tie as tie
@@ -51,7 +51,7 @@ returns c =
     let w1 = w2.before.before.before.before in
     let a = w1.before.before.before.args in
     (high c.before).is ∙ ap (λ (x : List ℕ). a.kind ∷ x)
-    ((λ i. w1.write-band.ensures i ++ w2.write-band2.ensures i) ∙ sym (bytes-join (bandValues a.low) (bandValues a.high)))
+    ((λ i. w1.write-band.ensures i ++ w2.write-band2.ensures i) ∙ sym (bytes_join (band_values a.low) (band_values a.high)))
 
 pub write-bands-spec : {M : Type 1} → statement M
 write-bands-spec =

@@ -5,9 +5,9 @@ use native.Mathlib.Omega.{arith}
 use lib.ListN.{length}
 use borrow.Author.Rules.{rules}
 use Rattle.laws.specs.Outcome.{does}
-use Rattle.big_endian.specs.Bytes.{pcmBytes}
-use Rattle.state.specs.Layout.{bandValues}
-use Rattle.state.proofs.Laws.{Front, stored, written, unwritten, coder-written}
+use Rattle.big_endian.specs.Bytes.{pcm_bytes}
+use Rattle.state.specs.Layout.{band_values}
+use Rattle.state.proofs.Laws.{Front, stored, written, unwritten, coder_written}
 use Rattle.state.proofs.write.write_coder.Statement.{statement}
 use Rattle.state.proofs.write.write_coder.Tie as tie
 
@@ -20,7 +20,7 @@ row c = search rules
 bands : (c : tie.After-state)
     → let w = c.before in
     let r = w.before.before.before.before.before.before.before.args.c in
-    Front 125 81 (1 ∷ pcmBytes (bandValues r.low ++ bandValues r.high)) w.write-bands.new.1.1.1.0
+    Front 125 81 (1 ∷ pcm_bytes (band_values r.low ++ band_values r.high)) w.write-bands.new.1.1.1.0
 bands c = record { long = omega arith; is = c.before.write-bands.ensures }
 
 returns-2 : tie.Need-returns-2
@@ -32,7 +32,7 @@ returns-2 c =
     let r = e.before.before.args.c in
     let l = row p in
     does (written _ _ e.if1.false) refl
-    (coder-written r (stored 81 125 r.past (bands b) (omega arith) (omega arith) (omega (arith, l)) s.store.ensures.left))
+    (coder_written r (stored 81 125 r.past (bands b) (omega arith) (omega arith) (omega (arith, l)) s.store.ensures.left))
 
 pub write-coder-spec : {M : Type 1} → statement M
 write-coder-spec =

@@ -5,9 +5,9 @@ use native.Mathlib.Omega.{arith}
 use lib.ListN.{length}
 use borrow.Author.Rules.{rules}
 use Rattle.laws.specs.Outcome.{does}
-use Rattle.big_endian.specs.Bytes.{pcmBytes}
-use Rattle.state.specs.Layout.{bandValues}
-use Rattle.state.proofs.Laws.{Front, stored, written, unwritten, decoder-written}
+use Rattle.big_endian.specs.Bytes.{pcm_bytes}
+use Rattle.state.specs.Layout.{band_values}
+use Rattle.state.proofs.Laws.{Front, stored, written, unwritten, decoder_written}
 use Rattle.state.proofs.write.write_decoder.Statement.{statement}
 use Rattle.state.proofs.write.write_decoder.Tie as tie
 
@@ -21,7 +21,7 @@ rows c = (search rules, search rules)
 bands : (c : tie.After-state)
     → let w = c.before in
     let r = w.before.before.before.before.before.before.before.before.before.args.d in
-    Front 125 81 (2 ∷ pcmBytes (bandValues r.low ++ bandValues r.high)) w.write-bands.new.1.1.1.0
+    Front 125 81 (2 ∷ pcm_bytes (band_values r.low ++ band_values r.high)) w.write-bands.new.1.1.1.0
 bands c = record { long = omega arith; is = c.before.write-bands.ensures }
 
 slice-aggregate-store-2 : tie.Need-slice-aggregate-store-2
@@ -37,7 +37,7 @@ returns-2 c =
     let r = e.before.before.args.d in
     let l = rows p in
     does (written _ _ e.if1.false) refl
-    (decoder-written r
+    (decoder_written r
     (stored 103 125 r.past.rh
     (stored 81 103 r.past.rl (bands b) (omega arith) (omega arith) (omega (arith, l.0)) s1.store.ensures.left)
     (omega arith) (omega arith) (omega (arith, l.1)) s2.store2.ensures.left))

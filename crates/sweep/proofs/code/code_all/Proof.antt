@@ -6,19 +6,19 @@ use borrow.Author.Rules.{rules}
 use lib.IntN.{pos}
 use lib.ListN.{length, get_or}
 use Rattle.laws.specs.Back.{back16, got32}
-use Rattle.g722.specs.Band.{nextZeros}
-use Rattle.idle.specs.Rows.{zerosAt}
-use Rattle.idle.specs.Recursive.{polesOf, good-bounds}
-use Rattle.idle.specs.Factors.{factorsOf}
-use Rattle.sweep.specs.Block.{word_of, codedNext}
+use Rattle.g722.specs.Band.{next_zeros}
+use Rattle.idle.specs.Rows.{zeros_at}
+use Rattle.idle.specs.Recursive.{poles_of, good_bounds}
+use Rattle.idle.specs.Factors.{factors_of}
+use Rattle.sweep.specs.Block.{word_of, coded_next}
 use Rattle.sweep.specs.Turn.{Lent, CodedBy}
-use Rattle.sweep.proofs.Loop.{standing, Going, Started, going_start, ended, going_on, said, coded-turn}
+use Rattle.sweep.proofs.Loop.{standing, Going, Started, going_start, ended, going_on, said, coded_turn}
 use Rattle.sweep.proofs.code.code_all.Statement.{statement}
 use Rattle.sweep.proofs.code.code_all.Tie as tie
 
 abbrev invariant-loop : tie.invariant-loop
 invariant-loop high x words₀ ilb q w b₀ d₀ p₀ f₀ o₀ i₀ i-end words b d p f o i =
-    (i ≤ length words₀) × Going (word_of high) (codedNext high) (standing b₀ 0 d₀ 0 p₀ f₀) x words₀ b d p f o words i
+    (i ≤ length words₀) × Going (word_of high) (coded_next high) (standing b₀ 0 d₀ 0 p₀ f₀) x words₀ b d p f o words i
 
 abbrev decreases-loop : tie.decreases-loop
 decreases-loop high x words₀ ilb q w b₀ d₀ p₀ f₀ o₀ i₀ i-end words b d p f o i = length words₀ - i
@@ -103,18 +103,18 @@ loop-again c =
     let v = l.loop.inv.1 in
     let x = st.args.x.now in
     let i = l.loop.i in
-    let z = zerosAt l.loop.b l.loop.o l.loop.d i in
-    let p = polesOf l.loop.p in
-    let f = factorsOf l.loop.f in
+    let z = zeros_at l.loop.b l.loop.o l.loop.d i in
+    let p = poles_of l.loop.p in
+    let f = factors_of l.loop.f in
     let r = turn.code-turn.result in
     let by : CodedBy st.args.high p f fz.filtez-at.result (get_or x i (pos 0)) r =
     rw (got32 fz.filtez-at, back16 (get_or x i (pos 0)) arg.code-turn-arg.given) at turn.code-turn.ensures in
-    let on : zerosAt ad.adapt-at.new.0 (8 - l.loop.o) ad.adapt-at.new.1.0 (i + 1) ≡ nextZeros z r.turn.d =
-    ad.adapt-at.ensures.0 ∙ ap (nextZeros z) (back16 r.turn.d told.struct_told.given.0.1) in
+    let on : zeros_at ad.adapt-at.new.0 (8 - l.loop.o) ad.adapt-at.new.1.0 (i + 1) ≡ next_zeros z r.turn.d =
+    ad.adapt-at.ensures.0 ∙ ap (next_zeros z) (back16 r.turn.d told.struct_told.given.0.1) in
     let sz = fz.filtez-at.ensures.0 in (
       omega (arith, q.loop-test.taken),
       going_on v (pos 0) (omega (arith, q.loop-test.taken, st.pre)) (omega (arith, q.loop-test.taken, v.run.long)) by.sound
-          ad.adapt-at.ensures.1 (said st.args.high z p f sz by) (coded-turn st.args.high z p f sz by on),
+          ad.adapt-at.ensures.1 (said st.args.high z p f sz by) (coded_turn st.args.high z p f sz by on),
     )
 
 gathered-requires : tie.Need-gathered-requires invariant-loop decreases-loop
@@ -145,7 +145,7 @@ code-all-spec =
     (λ c κs. tt)
     (λ c. search rules)
     (λ c κs. search rules)
-    (λ c κs. good-bounds _ c.before.before.before.before.before.before.before.before.before.before.before.requires.1.1)
+    (λ c κs. good_bounds _ c.before.before.before.before.before.before.before.before.before.before.before.requires.1.1)
     (λ c κs. tt)
     (λ c. (zero-le, going_start (started c)))
     plain-at-requires

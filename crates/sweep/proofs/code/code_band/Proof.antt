@@ -3,7 +3,7 @@ use mathlib.Core.Path.{sym, ◌∙◌}
 use borrow.Author.Rules.{rules}
 use borrow.Author.Tests.{not-true, not-false}
 use Rattle.laws.specs.Outcome.{does}
-use Rattle.sweep.specs.Block.{coded_block, block-is, coded-block}
+use Rattle.sweep.specs.Block.{coded_block, block_is, coded_block_lem}
 use Rattle.sweep.proofs.code.code_band.Statement.{statement}
 use Rattle.sweep.proofs.code.code_band.Tie as tie
 
@@ -16,14 +16,14 @@ returns c =
 code-all-requires : tie.Need-code-all-requires
 code-all-requires c κs =
     let e = c.before in
-    let b = block-is _ _ _ (sym e.before.takes.ensures ∙ not-false _ e.if1.false) in
+    let b = block_is _ _ _ (sym e.before.takes.ensures ∙ not-false _ e.if1.false) in
     (b.0, (b.1, b.2))
 
 returns-2 : tie.Need-returns-2
 returns-2 c =
     let r = c.before.before in
     let e = r.before.before in
-    does (coded-block _ _ _ _ (sym e.before.takes.ensures ∙ not-false _ e.if1.false)) r.code-all.ensures.answer
+    does (coded_block_lem _ _ _ _ (sym e.before.takes.ensures ∙ not-false _ e.if1.false)) r.code-all.ensures.answer
     r.code-all.ensures.left
 
 pub code-band-spec : {M : Type 1} → statement M

@@ -11,9 +11,9 @@ use Rattle.laws.specs.Back.{back16, back32, got16, got32}
 use Rattle.g722.specs.Arithmetic.{add, sub}
 use Rattle.g722.specs.Quantise.{quantl, quanth}
 use Rattle.g722.specs.Band.{filtep}
-use Rattle.idle.specs.Recursive.{polesOf}
-use Rattle.idle.specs.Factors.{factorsOf}
-use Rattle.sweep.specs.Turn.{stepBy}
+use Rattle.idle.specs.Recursive.{poles_of}
+use Rattle.idle.specs.Factors.{factors_of}
+use Rattle.sweep.specs.Turn.{step_by}
 use Rattle.sweep.proofs.code.code_turn.Statement.{statement}
 use Rattle.sweep.proofs.code.code_turn.Tie as tie
 
@@ -30,7 +30,7 @@ cut : (z : ℤ) {r : ℤ} → to_z w32 (of_z w32 z) ≡ z → to_z w16 (of_z w16
 cut z e f g = ap (λ (x : ℤ). to_z w16 (of_z w16 x)) e ∙ f ∙ g
 
 returns : tie.Need-returns
-unfolding factorsOf
+unfolding factors_of
 returns c =
     let w = c.before in
     let t = w.before in
@@ -41,7 +41,7 @@ returns c =
     let f = a.f.scale in
     let r = p.predic.result in
     let sz = to_z-of_z s.ranges.sz in
-    let pr : r ≡ add (filtep (polesOf a.p)) a.sz = p.predic.ensures.0 ∙ ap (add (filtep (polesOf a.p))) sz in
+    let pr : r ≡ add (filtep (poles_of a.p)) a.sz = p.predic.ensures.0 ∙ ap (add (filtep (poles_of a.p))) sz in
     let y = cut r (got32 p.predic) (back16 r p.predic.ensures.1) pr in
     let e = got16 b.sub ∙ b.sub.ensures ∙ (λ j. sub (to_z-of_z s.ranges.x j) (y j)) in
     let k = cut f (back32 f t.struct_told.given.1.0.1) (back16 f s.requires.1.1.0.scale) refl in
@@ -49,7 +49,7 @@ returns c =
       word = w.word.ensures.0 ∙ (λ j. cond a.high (quanth (e j) (k j) * 4) (quantl (e j) (k j)));
       step =
           c.turn.ensures.0
-          ∙ (λ j. stepBy a.high (polesOf a.p) (factorsOf a.f) (sz j) ((got32 p.predic ∙ pr) j) w.word.result);
+          ∙ (λ j. step_by a.high (poles_of a.p) (factors_of a.f) (sz j) ((got32 p.predic ∙ pr) j) w.word.result);
       sound = c.turn.ensures.1;
     }
 

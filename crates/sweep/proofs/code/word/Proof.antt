@@ -3,7 +3,7 @@ use mathlib.Core.Path.{◌≡◌, refl}
 use native.Mathlib.Omega.{arith}
 use mir.Facts.{to_z-of_z}
 use Rattle.g722.specs.Quantise.{quanth}
-use Rattle.facts.specs.Sent.{quantl-small, quanth-small}
+use Rattle.facts.specs.Sent.{quantl_small, quanth_small}
 use Rattle.sweep.proofs.code.word.Statement.{statement}
 use Rattle.sweep.proofs.code.word.Tie as tie
 
@@ -11,18 +11,18 @@ high : (c : tie.After-quanth) → c.quanth.result ≡ quanth c.before.before.arg
 high c = let f = c.before.before.ranges in rw (c.quanth.ensures, to_z-of_z f.e, to_z-of_z f.scale)
 
 mul-result : tie.Need-overflow-mul-result
-mul-result c = let s = c.before.before.args in rw (high c) (record { fits = omega (arith, quanth-small s.e s.scale) })
+mul-result c = let s = c.before.before.args in rw (high c) (record { fits = omega (arith, quanth_small s.e s.scale) })
 
 returns : tie.Need-returns
 returns c =
     let s = c.before.before.args in
-    rw (c.before.if1.true, high c) (refl, omega (arith, quanth-small s.e s.scale))
+    rw (c.before.if1.true, high c) (refl, omega (arith, quanth_small s.e s.scale))
 
 returns-2 : tie.Need-returns-2
 returns-2 c =
     let s = c.before.before in
     rw (c.before.if1.false, c.quantl.ensures, to_z-of_z s.ranges.e, to_z-of_z s.ranges.scale)
-    (refl, quantl-small s.args.e s.args.scale)
+    (refl, quantl_small s.args.e s.args.scale)
 
 pub word-spec : {M : Type 1} → statement M
 word-spec = tie.close (tie.spec (λ c κs. tt) mul-result returns (λ c κs. tt) returns-2)

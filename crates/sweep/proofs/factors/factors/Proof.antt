@@ -3,12 +3,12 @@ use mathlib.Core.Path.{◌∙◌, ap}
 use Rattle.laws.specs.Back.{got16, back32}
 use Rattle.g722.specs.Arithmetic.{stop}
 use Rattle.idle.specs.Recursive.{stop16}
-use Rattle.idle.specs.Factors.{factorsOf}
+use Rattle.idle.specs.Factors.{factors_of}
 use Rattle.sweep.proofs.factors.factors.Statement.{statement}
 use Rattle.sweep.proofs.factors.factors.Tie as tie
 
 returns : tie.Need-returns
-unfolding factorsOf
+unfolding factors_of
 returns c =
     let d = c.before.before in
     let s = d.before.before in

@@ -1,11 +1,11 @@
 -- `sweep::factors::scales` meets its contract: both factors are widened as they are, and have 16 bits.
 use Rattle.laws.specs.Back.{widened}
-use Rattle.idle.specs.Factors.{factorsOf}
+use Rattle.idle.specs.Factors.{factors_of}
 use Rattle.sweep.proofs.factors.scales.Statement.{statement}
 use Rattle.sweep.proofs.factors.scales.Tie as tie
 
 returns : tie.Need-returns
-unfolding factorsOf
+unfolding factors_of
 returns c =
     let w = c.before.before in
     let g = w.before.struct_told.given in

@@ -8,16 +8,16 @@ use mir.Syntax.{w32}
 use mir.Val.{to_z, of_z}
 use mir.Facts.{to_z-of_z}
 use Rattle.laws.specs.Back.{got32, back32, widened}
-use Rattle.laws.specs.Size.{fits-abs, abs-add, abs16, mag-abs, shr-fits}
+use Rattle.laws.specs.Size.{fits_abs, abs_add, abs16, mag_abs, shr_fits}
 use Rattle.g722.specs.Quantise.{logsc, scale_at}
-use Rattle.tables.specs.Entries.{ila-small}
-use Rattle.idle.specs.Factors.{factorsOf, top, weighed, product-abs, kept-abs, log_is, log-address}
+use Rattle.tables.specs.Entries.{ila_small}
+use Rattle.idle.specs.Factors.{factors_of, top, weighed, product_abs, kept_abs, log_is, log_address}
 use Rattle.sweep.proofs.factors.weighed.Statement.{statement}
 use Rattle.sweep.proofs.factors.weighed.Tie as tie
 
 scale-held : (k : ℕ) → mag (scale_at k) < 2 ^ 15
 unfolding scale_at
-scale-held k = omega (arith, ila-small k)
+scale-held k = omega (arith, ila_small k)
 
 -- the old log factor as it is read
 old : (c : tie.After-struct-told) → to_z w32 (of_z w32 c.before.before.args.f.log) ≡ c.before.before.args.f.log
@@ -26,7 +26,7 @@ old c = back32 c.before.before.args.f.log c.struct_told.given.0.1
 mul_fit : tie.Need-overflow-mul-fit
 mul_fit c =
     let s = c.before.before in
-    rw (old c) (fits-abs (omega (arith, product-abs s.args.f.log s.requires.1.log)))
+    rw (old c) (fits_abs (omega (arith, product_abs s.args.f.log s.requires.1.log)))
 
 weight : (c : tie.After-wide) → to_z w32 (of_z w32 c.wide.result) ≡ c.before.before.before.args.w
 weight c = widened c.wide.type-inv c.wide.ensures c.before.before.before.ranges.w
@@ -37,8 +37,8 @@ add_fit c =
     let s = t.before.before in
     let m = mul_fit t in
     let nb = s.args.f.log in
-    rw (to_z-of_z m, to_z-of_z (shr-fits 32768 m), old t, weight c)
-    (fits-abs (omega (arith, abs-add (shr_z (nb *ℤ pos 32512) 32768) s.args.w, kept-abs nb s.requires.1.log, abs16 s.ranges.w)))
+    rw (to_z-of_z m, to_z-of_z (shr_fits 32768 m), old t, weight c)
+    (fits_abs (omega (arith, abs_add (shr_z (nb *ℤ pos 32512) 32768) s.args.w, kept_abs nb s.requires.1.log, abs16 s.ranges.w)))
 
 -- the next one
 log : (c : tie.After-fit)
@@ -51,33 +51,33 @@ log c =
     let s = t.before.before in
     let m = mul_fit t in
     let g = got32 c.fit ∙ c.fit.ensures in
-    rw (g, to_z-of_z (add_fit w), to_z-of_z m, to_z-of_z (shr-fits 32768 m), old t, weight w, got32 p.top ∙ p.top.ensures)
+    rw (g, to_z-of_z (add_fit w), to_z-of_z m, to_z-of_z (shr_fits 32768 m), old t, weight w, got32 p.top ∙ p.top.ensures)
     (log_is s.args.f.log s.requires.1.log s.args.high s.args.w)
 
 cast-k : tie.Need-overflow-cast-k
 cast-k c =
     let s = c.before.before.before.before.before in
-    let a = log-address s.args.high s.args.w s.args.f.log in
+    let a = log_address s.args.high s.args.w s.args.f.log in
     rw (log c) (a.positive, record { fits = omega (arith, a.size) })
 
 -- its address
 place : (c : tie.After-first) → nat_abs (to_z w32 (of_z w32 c.before.fit.result)) / 64 + c.first.result ≤ 352
 place c =
     let a = c.before.before.before.before.before.before.args in
-    rw (log c.before, c.first.ensures) (log-address a.high a.w a.f.log).place
+    rw (log c.before, c.first.ensures) (log_address a.high a.w a.f.log).place
 
 returns : tie.Need-returns
-unfolding factorsOf weighed
+unfolding factors_of weighed
 returns c =
     let n = c.before in
     let f = n.before in
     let s = f.before.before.before.before.before.args in
-    let a = log-address s.high s.w s.f.log in
+    let a = log_address s.high s.w s.f.log in
     let got = got32 c.scale-at ∙ c.scale-at.ensures in
     let scale = got ∙ (λ j. scale_at (nat_abs (log f j) / 64 + n.first.ensures j)) ∙ a.scale in (
       (λ j. record { log = log f j; scale = scale j }),
       record {
-        log = rw (log f) (omega (arith, mag-abs (logsc (top s.high) s.w s.f.log), a.size));
+        log = rw (log f) (omega (arith, mag_abs (logsc (top s.high) s.w s.f.log), a.size));
         scale = rw got (scale-held _);
       },
     )

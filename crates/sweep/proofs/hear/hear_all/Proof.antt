@@ -5,20 +5,20 @@ use native.Mathlib.Omega.{arith}
 use borrow.Author.Rules.{rules}
 use lib.ListN.{length, get_or}
 use Rattle.laws.specs.Back.{back16, got32}
-use Rattle.g722.specs.Band.{nextZeros}
-use Rattle.idle.specs.Rows.{zerosAt}
-use Rattle.idle.specs.Recursive.{polesOf, good-bounds}
-use Rattle.idle.specs.Factors.{factorsOf}
-use Rattle.sweep.specs.Block.{signalOf, heardNext}
+use Rattle.g722.specs.Band.{next_zeros}
+use Rattle.idle.specs.Rows.{zeros_at}
+use Rattle.idle.specs.Recursive.{poles_of, good_bounds}
+use Rattle.idle.specs.Factors.{factors_of}
+use Rattle.sweep.specs.Block.{signal_of, heard_next}
 use Rattle.sweep.specs.Turn.{Lent, HeardBy}
-use Rattle.sweep.proofs.Loop.{standing, Going, Started, going_start, ended, going_on, heard, heard-turn}
+use Rattle.sweep.proofs.Loop.{standing, Going, Started, going_start, ended, going_on, heard, heard_turn}
 use Rattle.sweep.proofs.hear.hear_all.Statement.{statement}
 use Rattle.sweep.proofs.hear.hear_all.Tie as tie
 
 abbrev invariant-loop : tie.invariant-loop
 invariant-loop high mode octets signals₀ ilb q h w b₀ d₀ p₀ f₀ o₀ i₀ i-end signals b d p f o i =
     (i ≤ length signals₀)
-    × Going (signalOf high mode) (heardNext high) (standing b₀ 0 d₀ 0 p₀ f₀) octets signals₀ b d p f o signals i
+    × Going (signal_of high mode) (heard_next high) (standing b₀ 0 d₀ 0 p₀ f₀) octets signals₀ b d p f o signals i
 
 abbrev decreases-loop : tie.decreases-loop
 decreases-loop high mode octets signals₀ ilb q h w b₀ d₀ p₀ f₀ o₀ i₀ i-end signals b d p f o i = length signals₀ - i
@@ -110,15 +110,15 @@ loop-again c =
     let v = l.loop.inv.1 in
     let octets = st.args.octets.now in
     let i = l.loop.i in
-    let z = zerosAt l.loop.b l.loop.o l.loop.d i in
-    let p = polesOf l.loop.p in
-    let f = factorsOf l.loop.f in
+    let z = zeros_at l.loop.b l.loop.o l.loop.d i in
+    let p = poles_of l.loop.p in
+    let f = factors_of l.loop.f in
     let r = turn.hear-turn.result in
     let h = (tables l.before).before in
     let by : HeardBy st.args.high h.outputs2.result p f fz.filtez-at.result (get_or octets i 0) r =
     rw (got32 fz.filtez-at) at turn.hear-turn.ensures in
-    let on : zerosAt ad.adapt-at.new.0 (8 - l.loop.o) ad.adapt-at.new.1.0 (i + 1) ≡ nextZeros z r.turn.d =
-    ad.adapt-at.ensures.0 ∙ ap (nextZeros z) (back16 r.turn.d told.struct-told2.given.0.1) in
+    let on : zeros_at ad.adapt-at.new.0 (8 - l.loop.o) ad.adapt-at.new.1.0 (i + 1) ≡ next_zeros z r.turn.d =
+    ad.adapt-at.ensures.0 ∙ ap (next_zeros z) (back16 r.turn.d told.struct-told2.given.0.1) in
     let octet : get_or octets i 0 < 256 = (arg.shared-slice-known2.given i).fits in
     let is = h.outputs2.ensures in
     let sz = fz.filtez-at.ensures.0 in (
@@ -126,7 +126,7 @@ loop-again c =
       going_on v 0 (omega (arith, q.loop-test.taken, st.pre)) (omega (arith, q.loop-test.taken, v.run.long)) by.sound
           ad.adapt-at.ensures.1
           (back16 r.signal turn-told.struct_told.given.0.1 ∙ heard st.args.high z p f sz st.args.mode octet is by)
-          (heard-turn st.args.high z p f sz st.args.mode octet is by on),
+          (heard_turn st.args.high z p f sz st.args.mode octet is by on),
     )
 
 gathered-requires : tie.Need-gathered-requires invariant-loop decreases-loop
@@ -158,7 +158,7 @@ hear-all-spec =
     (λ c κs. tt)
     (λ c. search rules)
     (λ c κs. search rules)
-    (λ c κs. good-bounds _ c.before.before.before.before.before.before.before.before.before.before.before.before.requires.1.1)
+    (λ c κs. good_bounds _ c.before.before.before.before.before.before.before.before.before.before.before.before.requires.1.1)
     (λ c κs. tt)
     (λ c. (zero-le, going_start (started c)))
     plain-at-requires

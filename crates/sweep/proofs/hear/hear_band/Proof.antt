@@ -3,12 +3,12 @@ use mathlib.Core.Path.{sym, ◌∙◌}
 use borrow.Author.Rules.{rules}
 use borrow.Author.Tests.{not-true, not-false}
 use Rattle.laws.specs.Outcome.{does}
-use Rattle.sweep.specs.Block.{heardBlock, block-is, heard-block}
+use Rattle.sweep.specs.Block.{heard_block, block_is, heard_block_lem}
 use Rattle.sweep.proofs.hear.hear_band.Statement.{statement}
 use Rattle.sweep.proofs.hear.hear_band.Tie as tie
 
 returns : tie.Need-returns
-unfolding heardBlock
+unfolding heard_block
 returns c =
     let e = sym c.before.takes.ensures ∙ not-true _ c.if1.true in
     record { answer = rw e; left = rw e }
@@ -16,14 +16,14 @@ returns c =
 hear-all-requires : tie.Need-hear-all-requires
 hear-all-requires c κs =
     let e = c.before in
-    let b = block-is _ _ _ (sym e.before.takes.ensures ∙ not-false _ e.if1.false) in
+    let b = block_is _ _ _ (sym e.before.takes.ensures ∙ not-false _ e.if1.false) in
     (b.0, (b.1, b.2))
 
 returns-2 : tie.Need-returns-2
 returns-2 c =
     let r = c.before in
     let e = r.before.before in
-    does (heard-block _ _ _ _ _ (sym e.before.takes.ensures ∙ not-false _ e.if1.false)) r.hear-all.ensures.answer
+    does (heard_block_lem _ _ _ _ _ (sym e.before.takes.ensures ∙ not-false _ e.if1.false)) r.hear-all.ensures.answer
     r.hear-all.ensures.left
 
 pub hear-band-spec : {M : Type 1} → statement M

@@ -11,10 +11,10 @@ use Rattle.laws.specs.Back.{back16, back32, got16, got32}
 use Rattle.laws.specs.Size.{sum_fits}
 use Rattle.g722.specs.Arithmetic.{stop, add, mul}
 use Rattle.g722.specs.Band.{filtep}
-use Rattle.at_hand.specs.Signed.{outputs-at, output-small}
-use Rattle.idle.specs.Recursive.{polesOf}
-use Rattle.idle.specs.Factors.{factorsOf}
-use Rattle.sweep.specs.Turn.{stepBy}
+use Rattle.at_hand.specs.Signed.{outputs_at, output_small}
+use Rattle.idle.specs.Recursive.{poles_of}
+use Rattle.idle.specs.Factors.{factors_of}
+use Rattle.sweep.specs.Turn.{step_by}
 use Rattle.sweep.proofs.hear.hear_turn.Statement.{statement}
 use Rattle.sweep.proofs.hear.hear_turn.Tie as tie
 
@@ -36,8 +36,8 @@ inverse-requires c κs =
     let w = c.before.before in
     let s = w.before.before in
     let o = s.requires.1.1.1.1 in
-    let at = outputs-at s.args.high o.mode w.word.result w.word.ensures.1 in
-    (rw (output c, o.is, at) (output-small _ o.mode w.word.result), rw (scale c) s.requires.1.1.0.scale)
+    let at = outputs_at s.args.high o.mode w.word.result w.word.ensures.1 in
+    (rw (output c, o.is, at) (output_small _ o.mode w.word.result), rw (scale c) s.requires.1.1.0.scale)
 
 add-y : tie.Need-overflow-add-y
 add-y c =
@@ -55,7 +55,7 @@ turn-requires c κs =
     (k.0, (k.1.0, (k.1.1.0, (rw (to_z-of_z s.ranges.sz) k.1.1.1.0, rw (got32 r) r.ensures.1, w.word.ensures.1))))
 
 returns : tie.Need-returns
-unfolding factorsOf add
+unfolding factors_of add
 returns c =
     let k = c.before in
     let i = k.before in
@@ -65,14 +65,14 @@ returns c =
     let s = p.before in
     let a = s.args in
     let sz = to_z-of_z s.ranges.sz in
-    let pr = got32 p.predic ∙ p.predic.ensures.0 ∙ ap (add (filtep (polesOf a.p))) sz in
+    let pr = got32 p.predic ∙ p.predic.ensures.0 ∙ ap (add (filtep (poles_of a.p))) sz in
     let d = got32 i.inverse
     ∙ i.inverse.ensures.0
     ∙ (λ j. mul (scale t j) (output t j))
     ∙ ap (λ (n : ℕ). mul a.f.scale (get_or a.h.now n (pos 0))) w.word.ensures.0 in
     record {
       signal = got16 k.clamp ∙ k.clamp.ensures ∙ ap stop (to_z-of_z (add-y i) ∙ (λ j. pr j +ℤ d j));
-      step = c.turn.ensures.0 ∙ (λ j. stepBy a.high (polesOf a.p) (factorsOf a.f) (sz j) (pr j) (w.word.ensures.0 j));
+      step = c.turn.ensures.0 ∙ (λ j. step_by a.high (poles_of a.p) (factors_of a.f) (sz j) (pr j) (w.word.ensures.0 j));
       sound = c.turn.ensures.1;
     }
 

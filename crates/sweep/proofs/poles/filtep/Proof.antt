@@ -7,8 +7,8 @@ use mir.Syntax.{w32}
 use mir.Val.{to_z, of_z}
 use mir.Facts.{to_z-of_z}
 use Rattle.laws.specs.Back.{back32, got32}
-use Rattle.laws.specs.Size.{fits-abs, abs-add}
-use Rattle.idle.specs.Recursive.{stop-abs, filtep-is}
+use Rattle.laws.specs.Size.{fits_abs, abs_add}
+use Rattle.idle.specs.Recursive.{stop_abs, filtep_is}
 use Rattle.sweep.proofs.poles.filtep.Statement.{statement}
 use Rattle.sweep.proofs.poles.filtep.Tie as tie
 
@@ -30,13 +30,13 @@ scaled-requires : tie.Need-scaled-requires
 scaled-requires c κs =
     let d = c.before in
     let f = d.before.requires in
-    (rw (a1 d) (omega (arith, f.a1)), rw (t1 d, f.t1) (stop-abs _))
+    (rw (a1 d) (omega (arith, f.a1)), rw (t1 d, f.t1) (stop_abs _))
 
 scaled-requires-2 : tie.Need-scaled-requires-2
 scaled-requires-2 c κs =
     let d = c.before.before.before.before in
     let f = d.before.requires in
-    (rw (a2 d) (omega (arith, f.a2)), rw (t2 d, f.t2) (stop-abs _))
+    (rw (a2 d) (omega (arith, f.a2)), rw (t2 d, f.t2) (stop_abs _))
 
 add_fit : tie.Need-overflow-add-fit
 add_fit c =
@@ -45,7 +45,7 @@ add_fit c =
     let f = d.before.requires in
     let h : nat_abs m.scaled.result ≤ nat_abs d.before.args.w.a1 = rw (a1 d) at m.scaled.ensures.1 in
     let k : nat_abs c.scaled2.result ≤ nat_abs d.before.args.w.a2 = rw (a2 d) at c.scaled2.ensures.1 in
-    rw (got32 m.scaled, got32 c.scaled2) (fits-abs (omega (arith, abs-add m.scaled.result c.scaled2.result, f.a1, f.a2)))
+    rw (got32 m.scaled, got32 c.scaled2) (fits_abs (omega (arith, abs_add m.scaled.result c.scaled2.result, f.a1, f.a2)))
 
 returns : tie.Need-returns
 returns c =
@@ -63,8 +63,8 @@ returns c =
         a2 d,
         t2 d,
       )
-          (filtep-is s.args.w s.requires),
-      rw (got32 c.fit ∙ c.fit.ensures) (stop-abs _),
+          (filtep_is s.args.w s.requires),
+      rw (got32 c.fit ∙ c.fit.ensures) (stop_abs _),
     )
 
 pub filtep-spec : {M : Type 1} → statement M

@@ -5,8 +5,8 @@ use native.Mathlib.Omega.{arith}
 use lib.IntN.{pos, nat_abs}
 use mir.Facts.{to_z-of_z}
 use Rattle.laws.specs.Back.{got32}
-use Rattle.laws.specs.Size.{fits-abs, abs-add, abs-sub}
-use Rattle.idle.specs.Recursive.{step-abs, first-is}
+use Rattle.laws.specs.Size.{fits_abs, abs_add, abs_sub}
+use Rattle.idle.specs.Recursive.{step_abs, first_is}
 use Rattle.sweep.proofs.poles.first.Statement.{statement}
 use Rattle.sweep.proofs.poles.first.Tie as tie
 
@@ -17,17 +17,17 @@ add_fit : tie.Need-overflow-add-fit
 add_fit c =
     let d = c.before in
     let s = d.before in
-    let k : nat_abs d.choose.result ≤ 192 = rw d.choose.ensures (step-abs s.args.one 192) in
+    let k : nat_abs d.choose.result ≤ 192 = rw d.choose.ensures (step_abs s.args.one 192) in
     let m : nat_abs c.scaled.result ≤ nat_abs s.args.a1 = rw (to_z-of_z s.ranges.a1) at c.scaled.ensures.1 in
-    rw (got32 d.choose, got32 c.scaled) (fits-abs (omega (arith, abs-add d.choose.result c.scaled.result, s.requires.0)))
+    rw (got32 d.choose, got32 c.scaled) (fits_abs (omega (arith, abs_add d.choose.result c.scaled.result, s.requires.0)))
 
 sub_fit : tie.Need-overflow-sub-fit
-sub_fit c = let s = c.before.before in rw (to_z-of_z s.ranges.a2) (fits-abs (omega (arith, abs-sub s.args.a2 (pos 15360), s.requires.1)))
+sub_fit c = let s = c.before.before in rw (to_z-of_z s.ranges.a2) (fits_abs (omega (arith, abs_sub s.args.a2 (pos 15360), s.requires.1)))
 
 sub-fit-2 : tie.Need-overflow-sub-fit-2
 sub-fit-2 c =
     let s = c.before.before in
-    rw (to_z-of_z s.ranges.a2) (fits-abs (omega (arith, abs-sub (pos 15360) s.args.a2, s.requires.1)))
+    rw (to_z-of_z s.ranges.a2) (fits_abs (omega (arith, abs_sub (pos 15360) s.args.a2, s.requires.1)))
 
 returns : tie.Need-returns
 returns c =
@@ -44,7 +44,7 @@ returns c =
       to_z-of_z s.ranges.a1,
       to_z-of_z s.ranges.a2,
     )
-    (first-is s.args.one s.args.one s.args.a1 s.args.a2 s.requires.0 s.requires.1)
+    (first_is s.args.one s.args.one s.args.a1 s.args.a2 s.requires.0 s.requires.1)
 
 pub first_spec : {M : Type 1} → statement M
 first_spec = tie.close (tie.spec (λ c κs. tt) scaled-requires add_fit sub_fit sub-fit-2 (λ c κs. tt) returns)

@@ -3,12 +3,12 @@ use mathlib.Core.Path.{ap, ◌∙◌}
 use native.Mathlib.Omega.{arith}
 use Rattle.laws.specs.Back.{got16, back32}
 use Rattle.g722.specs.Arithmetic.{stop}
-use Rattle.idle.specs.Recursive.{polesOf, stop-id}
+use Rattle.idle.specs.Recursive.{poles_of, stop_id}
 use Rattle.sweep.proofs.poles.narrowed.Statement.{statement}
 use Rattle.sweep.proofs.poles.narrowed.Tie as tie
 
 returns : tie.Need-returns
-unfolding polesOf
+unfolding poles_of
 returns c =
     let c5 = c.before.before in
     let c4 = c5.before.before in
@@ -21,8 +21,8 @@ returns c =
     let g = t.struct_told.given in
     let f = s.requires in
     λ j. record {
-      a1 = (got16 c1.clamp ∙ c1.clamp.ensures ∙ ap stop (back32 w.a1 g.0.1) ∙ stop-id w.a1 (omega (arith, f.a1))) j;
-      a2 = (got16 c2.clamp2 ∙ c2.clamp2.ensures ∙ ap stop (back32 w.a2 g.1.0.1) ∙ stop-id w.a2 (omega (arith, f.a2))) j;
+      a1 = (got16 c1.clamp ∙ c1.clamp.ensures ∙ ap stop (back32 w.a1 g.0.1) ∙ stop_id w.a1 (omega (arith, f.a1))) j;
+      a2 = (got16 c2.clamp2 ∙ c2.clamp2.ensures ∙ ap stop (back32 w.a2 g.1.0.1) ∙ stop_id w.a2 (omega (arith, f.a2))) j;
       r1 = (got16 c3.clamp3 ∙ c3.clamp3.ensures ∙ ap stop (back32 w.r1 g.1.1.0.1)) j;
       r2 = (got16 c4.clamp4 ∙ c4.clamp4.ensures ∙ ap stop (back32 w.r2 g.1.1.1.0.1)) j;
       p1 = (got16 c5.clamp5 ∙ c5.clamp5.ensures ∙ ap stop (back32 w.p1 g.1.1.1.1.1.1.0.1)) j;

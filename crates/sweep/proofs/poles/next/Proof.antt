@@ -4,8 +4,8 @@ use mir.Syntax.{w32}
 use mir.Val.{to_z, of_z}
 use mir.Facts.{to_z-of_z}
 use Rattle.laws.specs.Back.{back32, got32}
-use Rattle.g722.specs.Arithmetic.{sameSign}
-use Rattle.idle.specs.Recursive.{polesOf, second_of, first_of, second-abs, first-abs, next-is}
+use Rattle.g722.specs.Arithmetic.{same_sign}
+use Rattle.idle.specs.Recursive.{poles_of, second_of, first_of, second_abs, first_abs, next_is}
 use Rattle.sweep.proofs.poles.next.Statement.{statement}
 use Rattle.sweep.proofs.poles.next.Tie as tie
 
@@ -39,7 +39,7 @@ first-requires : tie.Need-first-requires
 first-requires c κs =
     let q = c.before in
     let d = q.before.before.before.before.before.before in
-    (rw (a1 d) d.before.requires.0.a1, rw (got32 q.second ∙ q.second.ensures) (second-abs _ _ _ _))
+    (rw (a1 d) d.before.requires.0.a1, rw (got32 q.second ∙ q.second.ensures) (second_abs _ _ _ _))
 
 twice-requires : tie.Need-twice-requires
 twice-requires c κs =
@@ -47,7 +47,7 @@ twice-requires c κs =
     rw (to_z-of_z s.ranges.r) s.requires.1
 
 returns : tie.Need-returns
-unfolding polesOf
+unfolding poles_of
 returns c =
     let tw = c.before in
     let fi = tw.before in
@@ -60,17 +60,17 @@ returns c =
     let p = s.args.p in
     let r = s.args.r in
     let F = s.requires.0 in
-    let e1 : s1.same.result ≡ sameSign p w.p1 = s1.same.ensures ∙ (λ j. sameSign (to_z-of_z s.ranges.p j) (p1 d j)) in
-    let e2 : s2.same2.result ≡ sameSign p w.p2 = s2.same2.ensures ∙ (λ j. sameSign (to_z-of_z s.ranges.p j) (p2 d j)) in
-    let e : se.second.result ≡ second_of (sameSign p w.p1) (sameSign p w.p2) w.a1 w.a2 =
+    let e1 : s1.same.result ≡ same_sign p w.p1 = s1.same.ensures ∙ (λ j. same_sign (to_z-of_z s.ranges.p j) (p1 d j)) in
+    let e2 : s2.same2.result ≡ same_sign p w.p2 = s2.same2.ensures ∙ (λ j. same_sign (to_z-of_z s.ranges.p j) (p2 d j)) in
+    let e : se.second.result ≡ second_of (same_sign p w.p1) (same_sign p w.p2) w.a1 w.a2 =
     se.second.ensures ∙ (λ j. second_of (e1 j) (e2 j) (a1 d j) (a2 d j)) in
-    let f : fi.first.result ≡ first_of (sameSign p w.p1) w.a1 se.second.result =
+    let f : fi.first.result ≡ first_of (same_sign p w.p1) w.a1 se.second.result =
     fi.first.ensures ∙ (λ j. first_of (e1 j) (a1 d j) (got32 se.second j)) in
-    let k = second-abs (sameSign p w.p1) (sameSign p w.p2) w.a1 w.a2 in (
+    let k = second_abs (same_sign p w.p1) (same_sign p w.p2) w.a1 w.a2 in (
       rw (got32 fi.first, got32 se.second, to_z-of_z s.ranges.r, to_z-of_z s.ranges.p, r1 d, p1 d)
-          (next-is w p r fi.first.result se.second.result e f),
+          (next_is w p r fi.first.result se.second.result e f),
       record {
-        a1 = rw (got32 fi.first ∙ f) (first-abs (sameSign p w.p1) w.a1 se.second.result F.a1 (rw e k));
+        a1 = rw (got32 fi.first ∙ f) (first_abs (same_sign p w.p1) w.a1 se.second.result F.a1 (rw e k));
         a2 = rw (got32 se.second ∙ e) k;
         t1 = got32 tw.twice ∙ tw.twice.ensures;
         t2 = rw (t1 d, r1 d) F.t1;

@@ -1,17 +1,17 @@
 -- `sweep::poles::same` meets its contract: each arm is one of the definition's.
 use mir.Facts.{to_z-of_z}
-use Rattle.g722.specs.Arithmetic.{sameSign}
+use Rattle.g722.specs.Arithmetic.{same_sign}
 use Rattle.sweep.proofs.poles.same.Statement.{statement}
 use Rattle.sweep.proofs.poles.same.Tie as tie
 
 returns : tie.Need-returns
-unfolding sameSign
+unfolding same_sign
 returns c =
     let s = c.before in
     simp (to_z-of_z s.ranges.b, rw (to_z-of_z s.ranges.a) at c.if1.true)
 
 returns-2 : tie.Need-returns-2
-unfolding sameSign
+unfolding same_sign
 returns-2 c =
     let s = c.before in
     simp (to_z-of_z s.ranges.b, rw (to_z-of_z s.ranges.a) at c.if1.false)

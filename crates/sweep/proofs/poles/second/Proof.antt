@@ -5,19 +5,19 @@ use native.Mathlib.Omega.{arith}
 use lib.IntN.{nat_abs, ◌+ℤ◌}
 use mir.Facts.{to_z-of_z}
 use Rattle.laws.specs.Back.{got32}
-use Rattle.laws.specs.Size.{fits-abs, abs-add}
-use Rattle.idle.specs.Recursive.{step-abs, second_is}
+use Rattle.laws.specs.Size.{fits_abs, abs_add}
+use Rattle.idle.specs.Recursive.{step_abs, second_is}
 use Rattle.sweep.proofs.poles.second.Statement.{statement}
 use Rattle.sweep.proofs.poles.second.Tie as tie
 
 step : (c : tie.After-choose) → nat_abs c.choose.result ≤ 128
-step c = rw c.choose.ensures (step-abs c.before.before.args.two 128)
+step c = rw c.choose.ensures (step_abs c.before.before.args.two 128)
 
 add_fit : tie.Need-overflow-add-fit
 add_fit c =
     let t = c.before in
     rw (got32 t.turned, got32 c.choose)
-    (fits-abs (omega (arith, abs-add t.turned.result c.choose.result, t.turned.ensures.1, step c)))
+    (fits_abs (omega (arith, abs_add t.turned.result c.choose.result, t.turned.ensures.1, step c)))
 
 scaled-requires : tie.Need-scaled-requires
 scaled-requires c κs = let s = c.before.before in (rw (to_z-of_z s.ranges.a2) (omega (arith, s.requires.1)), omega arith)
@@ -32,7 +32,7 @@ add-fit-2 c =
     let x = t.turned.result in
     let y = d.choose.result in
     rw (to_z-of_z (add_fit d), got32 t.turned, got32 d.choose, got32 c.scaled)
-    (fits-abs (omega (arith, abs-add (x +ℤ y) c.scaled.result, abs-add x y, t.turned.ensures.1, step d, low c)))
+    (fits_abs (omega (arith, abs_add (x +ℤ y) c.scaled.result, abs_add x y, t.turned.ensures.1, step d, low c)))
 
 returns : tie.Need-returns
 returns c =

@@ -9,7 +9,7 @@ use mir.Val.{to_z, of_z}
 use Rattle.laws.specs.Back.{got32, widened}
 use Rattle.laws.specs.Size.{abs16}
 use Rattle.g722.specs.Arithmetic.{stop}
-use Rattle.idle.specs.Recursive.{polesOf, stop16}
+use Rattle.idle.specs.Recursive.{poles_of, stop16}
 use Rattle.sweep.proofs.poles.widened.Statement.{statement}
 use Rattle.sweep.proofs.poles.widened.Tie as tie
 
@@ -34,7 +34,7 @@ twice-requires-2 c κs =
     rw (took {x = r2} h c.wide6.type-inv c.wide6.ensures) (few r2 h)
 
 returns : tie.Need-returns
-unfolding polesOf
+unfolding poles_of
 returns c =
     let t8 = c.before in
     let w7 = t8.before in

@@ -10,7 +10,7 @@ use mir.Syntax.{w16}
 use mir.Val.{to_z, of_z}
 use mir.Facts.{to_z-of_z}
 use Rattle.g722.specs.Band.{upzero}
-use Rattle.idle.specs.Rows.{zerosAt, adapted-rows, quiet-on}
+use Rattle.idle.specs.Rows.{zeros_at, adapted_rows, quiet_on}
 use Rattle.sweep.proofs.rows.adapt_at.Statement.{statement}
 use Rattle.sweep.proofs.rows.adapt_at.Tie as tie
 
@@ -30,9 +30,9 @@ returns c =
     let d168 : length d ≡ 168 = search rules in
     let n = a.adapt.ensures ∙ (λ j. zip_with (upzero (f j)) (r1.eight.ensures j) (r2.eight2.ensures j)) in
     let p = c.put.ensures ∙ (λ j. take (8 - o) b ++ (n j ++ drop (8 - o + 8) b)) in (
-      (λ j. zerosAt (p j) (8 - o) (set (set d (i + 6) (f j)) (i + 8) (pos 0)) (i + 1))
-          ∙ adapted-rows b d o i (omega arith) (omega arith) e (omega arith) b16,
-      λ q. quiet-on d i (to_z w16 (of_z w16 e)) (omega arith) q,
+      (λ j. zeros_at (p j) (8 - o) (set (set d (i + 6) (f j)) (i + 8) (pos 0)) (i + 1))
+          ∙ adapted_rows b d o i (omega arith) (omega arith) e (omega arith) b16,
+      λ q. quiet_on d i (to_z w16 (of_z w16 e)) (omega arith) q,
     )
 
 pub adapt-at-spec : {M : Type 1} → statement M

@@ -6,7 +6,7 @@ use borrow.Author.Rules.{rules}
 use lib.IntN.{pos}
 use lib.ListN.{length, take, drop, set, length-set, length-append, length-drop}
 use lib.Seq.{length-take-le}
-use Rattle.idle.specs.Rows.{history-begun}
+use Rattle.idle.specs.Rows.{history_begun}
 use Rattle.sweep.proofs.rows.begin.Statement.{statement}
 use Rattle.sweep.proofs.rows.begin.Tie as tie
 
@@ -26,7 +26,7 @@ returns c =
     let s = c.before.before.before.before in
     let h = s.args.history.now in
     (λ j. take 8 (set (set (c.before.copy.ensures j ++ drop 6 h) 6 (pos 0)) 7 (pos 0)))
-    ∙ history-begun s.args.t2 h (six s) (omega (arith, s.requires))
+    ∙ history_begun s.args.t2 h (six s) (omega (arith, s.requires))
 
 pub begin-spec : {M : Type 1} → statement M
 begin-spec =

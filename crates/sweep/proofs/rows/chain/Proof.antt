@@ -9,11 +9,11 @@ use lib.Seq.{length-take-le, get_or-take, get_or-drop}
 use mir.Syntax.{w16}
 use mir.Val.{to_z, of_z}
 use Rattle.laws.specs.Back.{got16, back16}
-use Rattle.laws.specs.Zipped.{zip-at, zip_length}
+use Rattle.laws.specs.Zipped.{zip_at, zip_length}
 use Rattle.facts.specs.Chain.{added, summed}
 use Rattle.g722.specs.Arithmetic.{add}
 use Rattle.g722.specs.Band.{filtez, term, sums}
-use Rattle.idle.specs.Rows.{zerosAt}
+use Rattle.idle.specs.Rows.{zeros_at}
 use Rattle.sweep.proofs.rows.chain.Statement.{statement}
 use Rattle.sweep.proofs.rows.chain.Tie as tie
 
@@ -60,7 +60,7 @@ loop-again c =
       got16 c.add2 ∙ c.add2.ensures,
       got16 m.mul ∙ m.mul.ensures,
       got16 a.add ∙ a.add.ensures,
-      zip-at term B D k (omega arith) (omega arith),
+      zip_at term B D k (omega arith) (omega arith),
       lane b o k (omega arith),
       lane d i k (omega arith),
     )
@@ -70,7 +70,7 @@ loop-again c =
     (omega arith, added (to_z w16 l.loop.sum) k (terms b d o i) (omega arith) e l.loop.invariant.1)
 
 returns : tie.Need-returns invariant-loop decreases-loop
-unfolding filtez zerosAt
+unfolding filtez zeros_at
 returns c =
     let l = c.before in
     let s = l.before in

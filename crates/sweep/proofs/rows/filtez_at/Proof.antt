@@ -8,8 +8,8 @@ use lib.Signed.{mag}
 use Rattle.laws.specs.Back.{got16, got32, back32}
 use Rattle.g722.specs.Band.{filtez}
 use Rattle.g722.specs.declared.Zeros.{Zeros}
-use Rattle.idle.specs.Plain.{plain-whole}
-use Rattle.idle.specs.Rows.{zerosAt, filtez-rows, sums-mag}
+use Rattle.idle.specs.Plain.{plain_whole}
+use Rattle.idle.specs.Rows.{zeros_at, filtez_rows, sums_mag}
 use Rattle.lanes.specs.Sum.{plain_of}
 use Rattle.lanes.specs.declared.PlainSum.{PlainSum}
 use Rattle.sweep.proofs.rows.filtez_at.Statement.{statement}
@@ -18,7 +18,7 @@ use Rattle.sweep.proofs.rows.filtez_at.Tie as tie
 -- FILTEZ has 16 bits
 filtez-mag : (z : Zeros) → mag (filtez z) < 2 ^ 15
 unfolding filtez
-filtez-mag z = sums-mag _
+filtez-mag z = sums_mag _
 
 returns : tie.Need-returns
 unfolding plain_of
@@ -29,10 +29,10 @@ returns c =
     let b16 = s.requires.1.1.1.0.0 in
     let d168 = s.requires.1.1.1.0.1 in
     let p : a.p ≡ plain_of (take 8 (drop a.o a.b.now)) (take 8 (drop a.i a.d.now)) = s.requires.1.1.1.1 in
-    let sum : a.p.sum ≡ filtez (zerosAt a.b.now a.o a.d.now a.i) =
+    let sum : a.p.sum ≡ filtez (zeros_at a.b.now a.o a.d.now a.i) =
     ap (λ (q : PlainSum). q.sum) p
-    ∙ plain-whole _ _ (sym (ap (λ (q : PlainSum). q.whole) p) ∙ t.if1.true)
-    ∙ sym (filtez-rows a.b.now a.d.now a.o a.i (omega arith) (omega arith) s.requires.1.1.0) in
+    ∙ plain_whole _ _ (sym (ap (λ (q : PlainSum). q.whole) p) ∙ t.if1.true)
+    ∙ sym (filtez_rows a.b.now a.d.now a.o a.i (omega arith) (omega arith) s.requires.1.1.0) in
     let read = back32 a.p.sum c.struct_told.given.0.1 in
     (read ∙ sum, rw (read ∙ sum) (filtez-mag _))
 

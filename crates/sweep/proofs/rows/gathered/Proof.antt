@@ -1,11 +1,11 @@
 -- `sweep::rows::gathered` meets its contract, by that of `six`.
 use borrow.Author.Rules.{rules}
-use Rattle.idle.specs.Rows.{zerosAt}
+use Rattle.idle.specs.Rows.{zeros_at}
 use Rattle.sweep.proofs.rows.gathered.Statement.{statement}
 use Rattle.sweep.proofs.rows.gathered.Tie as tie
 
 returns : tie.Need-returns
-unfolding zerosAt
+unfolding zeros_at
 returns c = λ j. record { b = c.before.before.six.ensures j; d = c.six2.ensures j }
 
 pub gathered-spec : {M : Type 1} → statement M

@@ -9,9 +9,9 @@ use mir.Syntax.{w32}
 use mir.Val.{to_z, of_z}
 use mir.Facts.{to_z-of_z}
 use Rattle.laws.specs.Back.{widened}
-use Rattle.laws.specs.Size.{fits-abs, abs-mul, abs_mag, mag-abs, shr-fits}
-use Rattle.quant.specs.Unstopped.{mul-plain}
-use Rattle.idle.specs.Recursive.{scaled-abs}
+use Rattle.laws.specs.Size.{fits_abs, abs_mul, abs_mag, mag_abs, shr_fits}
+use Rattle.quant.specs.Unstopped.{mul_plain}
+use Rattle.idle.specs.Recursive.{scaled_abs}
 use Rattle.sweep.proofs.turn.inverse.Statement.{statement}
 use Rattle.sweep.proofs.turn.inverse.Tie as tie
 
@@ -25,7 +25,7 @@ module _ (c : tie.After-wide) where
 mul-result : tie.Need-overflow-mul-result
 mul-result c =
     let s = c.before in
-    rw (q c, to_z-of_z s.ranges.scale) (fits-abs (omega (arith, abs-mul s.args.q s.args.scale, mul-le-mul s.requires.0 (small c))))
+    rw (q c, to_z-of_z s.ranges.scale) (fits_abs (omega (arith, abs_mul s.args.q s.args.scale, mul-le-mul s.requires.0 (small c))))
 
 returns : tie.Need-returns
 returns c =
@@ -34,8 +34,8 @@ returns c =
     let k = s.args.scale in
     let m = mul-result c in
     let h = s.requires.0 in
-    rw (to_z-of_z m, to_z-of_z (shr-fits 32768 m), q c, to_z-of_z s.ranges.scale)
-    (sym (mul-plain k x (omega (arith, h)) s.requires.1), omega (arith, mag-abs (shr_z (x *ℤ k) 32768), scaled-abs x k (small c), h))
+    rw (to_z-of_z m, to_z-of_z (shr_fits 32768 m), q c, to_z-of_z s.ranges.scale)
+    (sym (mul_plain k x (omega (arith, h)) s.requires.1), omega (arith, mag_abs (shr_z (x *ℤ k) 32768), scaled_abs x k (small c), h))
 
 pub inverse-spec : {M : Type 1} → statement M
 inverse-spec = tie.close (tie.spec (λ c κs. tt) mul-result returns)

@@ -6,21 +6,21 @@ use lib.IntN.{ℤ, pos}
 use lib.Signed.{mag}
 use mir.Facts.{to_z-of_z}
 use Rattle.laws.specs.Back.{got32}
-use Rattle.laws.specs.Clamp.{clamp-within}
-use Rattle.laws.specs.Order.{zarith, size-within}
-use Rattle.laws.specs.Size.{fits-abs, abs-add, abs_mag}
+use Rattle.laws.specs.Clamp.{clamp_within}
+use Rattle.laws.specs.Order.{zarith, size_within}
+use Rattle.laws.specs.Size.{fits_abs, abs_add, abs_mag}
 use Rattle.g722.specs.Arithmetic.{neg, stop, add}
 use Rattle.sweep.proofs.turn.predic.Statement.{statement}
 use Rattle.sweep.proofs.turn.predic.Tie as tie
 
 stop-mag : (z : ℤ) → mag (stop z) < 2 ^ 15
-stop-mag z = let w = clamp-within (neg 32768) (pos 32767) z (omega zarith) in omega (arith, size-within 32767 (stop z) w.0 w.1)
+stop-mag z = let w = clamp_within (neg 32768) (pos 32767) z (omega zarith) in omega (arith, size_within 32767 (stop z) w.0 w.1)
 
 add_fit : tie.Need-overflow-add-fit
 add_fit c =
     let s = c.before in
     rw (got32 c.filtep, to_z-of_z s.ranges.sz)
-    (fits-abs (omega (arith, abs-add c.filtep.result s.args.sz, c.filtep.ensures.1, abs_mag s.args.sz, s.requires.1)))
+    (fits_abs (omega (arith, abs_add c.filtep.result s.args.sz, c.filtep.ensures.1, abs_mag s.args.sz, s.requires.1)))
 
 returns : tie.Need-returns
 unfolding add

@@ -10,26 +10,26 @@ use mir.Syntax.{w16, w32}
 use mir.Val.{to_z, of_z}
 use mir.Facts.{to_z-of_z}
 use Rattle.laws.specs.Back.{back16, back32, got32}
-use Rattle.laws.specs.Size.{sum_fits, abs-add, abs_mag}
+use Rattle.laws.specs.Size.{sum_fits, abs_add, abs_mag}
 use Rattle.g722.specs.Arithmetic.{stop, add, mul}
-use Rattle.g722.specs.Band.{nextPoles}
-use Rattle.at_hand.specs.Signed.{outputAt, outputs-at, output-small, weights-at}
-use Rattle.idle.specs.Recursive.{polesOf}
-use Rattle.idle.specs.Factors.{factorsOf, weighed}
-use Rattle.sweep.specs.Turn.{step_of, stepBy}
+use Rattle.g722.specs.Band.{next_poles}
+use Rattle.at_hand.specs.Signed.{output_at, outputs_at, output_small, weights_at}
+use Rattle.idle.specs.Recursive.{poles_of}
+use Rattle.idle.specs.Factors.{factors_of, weighed}
+use Rattle.sweep.specs.Turn.{step_of, step_by}
 use Rattle.sweep.proofs.turn.turn.Statement.{statement}
 use Rattle.sweep.proofs.turn.turn.Tie as tie
 
 -- the output and the scale as they are read
 output : (c : tie.After-inverse-arg)
     → let a = c.before.args in
-    to_z w16 (of_z w16 (get_or a.q.now a.word (pos 0))) ≡ outputAt a.high 3 a.word
+    to_z w16 (of_z w16 (get_or a.q.now a.word (pos 0))) ≡ output_at a.high 3 a.word
 output c =
     let s = c.before in
     let a = s.args in
     back16 (get_or a.q.now a.word (pos 0)) c.inverse-arg.given
     ∙ ap (λ (l : List ℤ). get_or l a.word (pos 0)) s.requires.0.outputs
-    ∙ outputs-at a.high 3 a.word s.requires.1.1.1.2
+    ∙ outputs_at a.high 3 a.word s.requires.1.1.1.2
 
 scale : (c : tie.After-struct-told) → let f = c.before.before.args.f in to_z w32 (of_z w32 f.scale) ≡ f.scale
 scale c = back32 c.before.before.args.f.scale c.struct_told.given.1.0.1
@@ -37,12 +37,12 @@ scale c = back32 c.before.before.args.f.scale c.struct_told.given.1.0.1
 inverse-requires : tie.Need-inverse-requires
 inverse-requires c κs =
     let s = c.before.before in
-    (rw (output c.before) (output-small s.args.high 3 s.args.word), rw (scale c) s.requires.1.1.0.scale)
+    (rw (output c.before) (output_small s.args.high 3 s.args.word), rw (scale c) s.requires.1.1.0.scale)
 
 -- the difference
 difference : (c : tie.After-inverse)
     → let a = c.before.before.before.args in
-    c.inverse.result ≡ mul a.f.scale (outputAt a.high 3 a.word)
+    c.inverse.result ≡ mul a.f.scale (output_at a.high 3 a.word)
 difference c = c.inverse.ensures.0 ∙ (λ j. mul (scale c.before j) (output c.before.before j))
 
 add-next : tie.Need-overflow-add-next
@@ -63,11 +63,11 @@ next-requires c κs =
     let r = c.inverse.result in (
       s.requires.1.0,
       rw (to_z-of_z (add-next-2 c), got32 c.inverse, to_z-of_z s.ranges.s)
-          (omega (arith, abs-add s.args.s r, abs_mag s.args.s, abs_mag r, s.requires.1.1.1, c.inverse.ensures.1)),
+          (omega (arith, abs_add s.args.s r, abs_mag s.args.s, abs_mag r, s.requires.1.1.1, c.inverse.ensures.1)),
     )
 
 returns : tie.Need-returns
-unfolding step_of stepBy factorsOf add
+unfolding step_of step_by factors_of add
 returns c =
     let t = c.before in
     let n = t.before in
@@ -79,14 +79,14 @@ returns c =
     let r = to_z-of_z (add-next-2 i) ∙ (λ j. to_z-of_z s.ranges.s j +ℤ d j) in
     let w = back16 (get_or a.w.now (a.word / 4) (pos 0)) t.weighed-arg.given
     ∙ ap (λ (l : List ℤ). get_or l (a.word / 4) (pos 0)) s.requires.0.weights
-    ∙ weights-at a.high (a.word / 4) (omega (arith, s.requires.1.1.1.2)) in (
+    ∙ weights_at a.high (a.word / 4) (omega (arith, s.requires.1.1.1.2)) in (
       (λ j. record {
         d =
             (ap (λ (z : ℤ). to_z w16 (of_z w16 z)) (got32 i.inverse)
             ∙ back16 i.inverse.result i.inverse.ensures.1
             ∙ difference i) j;
-        poles = (n.next.ensures.0 ∙ (λ k. nextPoles (polesOf a.p) (stop (p k)) (stop (r k)))) j;
-        factors = (c.weighed.ensures.0 ∙ ap (λ (z : ℤ). weighed a.high z (factorsOf a.f)) w) j;
+        poles = (n.next.ensures.0 ∙ (λ k. next_poles (poles_of a.p) (stop (p k)) (stop (r k)))) j;
+        factors = (c.weighed.ensures.0 ∙ ap (λ (z : ℤ). weighed a.high z (factors_of a.f)) w) j;
       }),
       record { poles = n.next.ensures.1; factors = c.weighed.ensures.1 },
     )

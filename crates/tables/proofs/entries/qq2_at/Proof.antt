@@ -3,7 +3,7 @@ use mathlib.Core.Path.{refl}
 use native.Mathlib.Omega.{arith}
 use borrow.Author.Rules.{rules}
 use Rattle.g722.specs.Tables.{qq2}
-use Rattle.tables.specs.Entries.{above-table}
+use Rattle.tables.specs.Entries.{above_table}
 use Rattle.tables.proofs.entries.qq2_at.Statement.{statement}
 use Rattle.tables.proofs.entries.qq2_at.Tie as tie
 
@@ -13,7 +13,7 @@ returns c = refl
 
 returns-2 : tie.Need-returns-2
 unfolding qq2
-returns-2 c = above-table qq2 0 c.before.args.k (omega arith)
+returns-2 c = above_table qq2 0 c.before.args.k (omega arith)
 
 pub qq2-at-spec : {M : Type 1} → statement M
 qq2-at-spec = tie.close (tie.spec (λ c. search rules) (λ c. search rules) returns returns-2)

@@ -3,7 +3,7 @@ use mathlib.Core.Path.{refl}
 use native.Mathlib.Omega.{arith}
 use borrow.Author.Rules.{rules}
 use Rattle.g722.specs.Tables.{qq6}
-use Rattle.tables.specs.Entries.{above-table}
+use Rattle.tables.specs.Entries.{above_table}
 use Rattle.tables.proofs.entries.qq6_at.Statement.{statement}
 use Rattle.tables.proofs.entries.qq6_at.Tie as tie
 
@@ -13,7 +13,7 @@ returns c = refl
 
 returns-2 : tie.Need-returns-2
 unfolding qq6
-returns-2 c = above-table qq6 0 c.before.args.k (omega arith)
+returns-2 c = above_table qq6 0 c.before.args.k (omega arith)
 
 pub qq6-at-spec : {M : Type 1} → statement M
 qq6-at-spec = tie.close (tie.spec (λ c. search rules) (λ c. search rules) returns returns-2)

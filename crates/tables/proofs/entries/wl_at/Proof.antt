@@ -4,17 +4,17 @@ use lib.IntN.{pos}
 use borrow.Author.Rules.{rules}
 use mir.Facts.{to_z-of_z}
 use Rattle.g722.specs.Tables.{wl}
-use Rattle.tables.specs.Entries.{entry-fits, above-table}
+use Rattle.tables.specs.Entries.{entry_fits, above_table}
 use Rattle.tables.proofs.entries.wl_at.Statement.{statement}
 use Rattle.tables.proofs.entries.wl_at.Tie as tie
 
 returns : tie.Need-returns
 unfolding wl
-returns c = to_z-of_z (entry-fits wl tt c.before.before.args.k)
+returns c = to_z-of_z (entry_fits wl tt c.before.before.args.k)
 
 returns-2 : tie.Need-returns-2
 unfolding wl
-returns-2 c = above-table wl (pos 0) c.before.args.k (omega arith)
+returns-2 c = above_table wl (pos 0) c.before.args.k (omega arith)
 
 pub wl-at-spec : {M : Type 1} → statement M
 wl-at-spec = tie.close (tie.spec (λ c. search rules) (λ c. search rules) returns returns-2)

@@ -2,14 +2,14 @@
 use mathlib.Core.Path.{◌∙◌, ap}
 use Prim.Native.Nat.{ℕ, ◌*◌, ◌/◌, ◌%◌, ◌^◌}
 use borrow.Author.Rules.{rules}
-use Rattle.tables.specs.Rows.{entry-of-row}
+use Rattle.tables.specs.Rows.{entry_of_row}
 use Rattle.tables.proofs.scale.ilb_at.Statement.{statement}
 use Rattle.tables.proofs.scale.ilb_at.Tie as tie
 
 returns : tie.Need-returns
 returns c =
     let k = c.before.args.k in
-    ap (λ (w : ℕ). w / 2 ^ (16 * (k % 4)) % 65536) c.row.ensures ∙ entry-of-row k (search rules)
+    ap (λ (w : ℕ). w / 2 ^ (16 * (k % 4)) % 65536) c.row.ensures ∙ entry_of_row k (search rules)
 
 pub ilb-at-spec : {M : Type 1} → statement M
 ilb-at-spec =

@@ -9,28 +9,28 @@ use mir.Syntax.{w16}
 use mir.Facts.{to_z_pos}
 use Rattle.g722.specs.Tables.{ila}
 use Rattle.g722.specs.Quantise.{scale_at}
-use Rattle.tables.specs.Entries.{above-table, ila-small}
-use Rattle.tables.specs.Rows.{by-method-2}
+use Rattle.tables.specs.Entries.{above_table, ila_small}
+use Rattle.tables.specs.Rows.{by_method_2}
 use Rattle.tables.proofs.scale.scale_at.Statement.{statement}
 use Rattle.tables.proofs.scale.scale_at.Tie as tie
 
 returns : tie.Need-returns
 unfolding scale_at ila
-returns c = ap (λ (x : ℕ). pos ((x + 1) * 4)) (above-table ila 0 c.before.args.k (omega arith))
+returns c = ap (λ (x : ℕ). pos ((x + 1) * 4)) (above_table ila 0 c.before.args.k (omega arith))
 
 fits : (k : ℕ) → (get_or ila k 0 + 1) * 4 < 2 ^ 15
-fits k = let h = ila-small k in omega arith
+fits k = let h = ila_small k in omega arith
 
 cast-result-2 : tie.Need-overflow-cast-result-2
 cast-result-2 c =
     let k = c.before.before.args.k in
-    record { sfits = subst⁻¹ (λ (n : ℕ). n < 2 ^ 15) (by-method-2 k c.ilb-at.result (omega arith) c.ilb-at.ensures) (fits k) }
+    record { sfits = subst⁻¹ (λ (n : ℕ). n < 2 ^ 15) (by_method_2 k c.ilb-at.result (omega arith) c.ilb-at.ensures) (fits k) }
 
 returns-2 : tie.Need-returns-2
 unfolding scale_at
 returns-2 c =
     to_z_pos w16 (cast-result-2 c).sfits
-    ∙ ap pos (by-method-2 c.before.before.args.k c.ilb-at.result (omega arith) c.ilb-at.ensures)
+    ∙ ap pos (by_method_2 c.before.before.args.k c.ilb-at.result (omega arith) c.ilb-at.ensures)
 
 pub scale-at-spec : {M : Type 1} → statement M
 scale-at-spec =
