@@ -1,4 +1,6 @@
 // A number as an argument of a program gives it.
+#![tactic(auto)]
+
 ghost use Rattle.std.specs.Prelude.{◌≡◌, ◌≤◌};
 ghost use Rattle.argument.specs.Number.{with, number_of};
 

@@ -2,42 +2,43 @@
 use mathlib.Core.Path.{refl}
 use Rattle.laws.specs.One.{LeavesOne, equation}
 use Rattle.arith.proofs as arith
+use Rattle.arith.specs.contracts as contracts
 
-pub wide : LeavesOne arith.wide.ended (λ M. arith.wide.clauses) arith.wide.Symbol.routine
+pub wide : LeavesOne contracts.wide.ended (λ M 𝓤. contracts.wide.clauses) arith.wide.Symbol.name arith.wide.Symbol.code
 wide = equation (λ κs a l m. refl) (λ M. arith.wide.Met.met)
 
-pub clamp : LeavesOne arith.clamp.ended (λ M. arith.clamp.clauses) arith.clamp.Symbol.routine
+pub clamp : LeavesOne contracts.clamp.ended (λ M 𝓤. contracts.clamp.clauses) arith.clamp.Symbol.name arith.clamp.Symbol.code
 clamp = equation (λ κs a l m. refl) (λ M. arith.clamp.Met.met)
 
-pub add : LeavesOne arith.add.ended (λ M. arith.add.clauses) arith.add.Symbol.routine
+pub add : LeavesOne contracts.add.ended (λ M 𝓤. contracts.add.clauses) arith.add.Symbol.name arith.add.Symbol.code
 add = equation (λ κs a l m. refl) (λ M. arith.add.Met.met)
 
-pub sub : LeavesOne arith.sub.ended (λ M. arith.sub.clauses) arith.sub.Symbol.routine
+pub sub : LeavesOne contracts.sub.ended (λ M 𝓤. contracts.sub.clauses) arith.sub.Symbol.name arith.sub.Symbol.code
 sub = equation (λ κs a l m. refl) (λ M. arith.sub.Met.met)
 
-pub mul : LeavesOne arith.mul.ended (λ M. arith.mul.clauses) arith.mul.Symbol.routine
+pub mul : LeavesOne contracts.mul.ended (λ M 𝓤. contracts.mul.clauses) arith.mul.Symbol.name arith.mul.Symbol.code
 mul = equation (λ κs a l m. refl) (λ M. arith.mul.Met.met)
 
-pub limit : LeavesOne arith.limit.ended (λ M. arith.limit.clauses) arith.limit.Symbol.routine
+pub limit : LeavesOne contracts.limit.ended (λ M 𝓤. contracts.limit.clauses) arith.limit.Symbol.name arith.limit.Symbol.code
 limit = equation (λ κs a l m. refl) (λ M. arith.limit.Met.met)
 
-pub one : LeavesOne arith.one.ended (λ M. arith.one.clauses) arith.one.Symbol.routine
+pub one : LeavesOne contracts.one.ended (λ M 𝓤. contracts.one.clauses) arith.one.Symbol.name arith.one.Symbol.code
 one = equation (λ κs a l m. refl) (λ M. arith.one.Met.met)
 
-pub changes : LeavesOne arith.changes.ended (λ M. arith.changes.clauses) arith.changes.Symbol.routine
+pub changes : LeavesOne contracts.changes.ended (λ M 𝓤. contracts.changes.clauses) arith.changes.Symbol.name arith.changes.Symbol.code
 changes = equation (λ κs a l m. refl) (λ M. arith.changes.Met.met)
 
-pub size : LeavesOne arith.size.ended (λ M. arith.size.clauses) arith.size.Symbol.routine
+pub size : LeavesOne contracts.size.ended (λ M 𝓤. contracts.size.clauses) arith.size.Symbol.name arith.size.Symbol.code
 size = equation (λ κs a l m. refl) (λ M. arith.size.Met.met)
 
-pub same_sign : LeavesOne arith.same_sign.ended (λ M. arith.same_sign.clauses) arith.same_sign.Symbol.routine
+pub same_sign : LeavesOne contracts.same_sign.ended (λ M 𝓤. contracts.same_sign.clauses) arith.same_sign.Symbol.name arith.same_sign.Symbol.code
 same_sign = equation (λ κs a l m. refl) (λ M. arith.same_sign.Met.met)
 
-pub within : LeavesOne arith.within.ended (λ M. arith.within.clauses) arith.within.Symbol.routine
+pub within : LeavesOne contracts.within.ended (λ M 𝓤. contracts.within.clauses) arith.within.Symbol.name arith.within.Symbol.code
 within = equation (λ κs a l m. refl) (λ M. arith.within.Met.met)
 
-pub equal : LeavesOne arith.equal.ended (λ M. arith.equal.clauses) arith.equal.Symbol.routine
+pub equal : LeavesOne contracts.equal.ended (λ M 𝓤. contracts.equal.clauses) arith.equal.Symbol.name arith.equal.Symbol.code
 equal = equation (λ κs a l m. refl) (λ M. arith.equal.Met.met)
 
-pub pick : LeavesOne arith.pick.ended (λ M. arith.pick.clauses) arith.pick.Symbol.routine
+pub pick : LeavesOne contracts.pick.ended (λ M 𝓤. contracts.pick.clauses) arith.pick.Symbol.name arith.pick.Symbol.code
 pick = equation (λ κs a l m. refl) (λ M. arith.pick.Met.met)

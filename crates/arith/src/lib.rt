@@ -1,4 +1,6 @@
 // The arithmetic of section 6 on 16-bit numbers: sums that stop, the product, limits, sign and size.
+#![tactic(auto)]
+
 ghost use Rattle.std.specs.Prelude.{◌≡◌, cond};
 ghost use Rattle.std.specs.Int.Signed.{mag};
 ghost use Rattle.laws.specs.Clamp.{clamp};

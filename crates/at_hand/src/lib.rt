@@ -1,4 +1,6 @@
 // Table 14 by the code word itself, with its signs: what a loop over code words lends, so that a turn is one read.
+#![tactic(auto)]
+
 ghost use Rattle.std.specs.Prelude.{◌≡◌};
 ghost use Rattle.g722.specs.Tables.{ilb};
 ghost use Rattle.at_hand.specs.Signed.{outputs_of, weights_of};

@@ -1,4 +1,6 @@
 // The adaptive predictor, block 4 of section 6.2: one for both bands and both ends.
+#![tactic(auto)]
+
 ghost use Rattle.std.specs.Prelude.{◌≡◌};
 ghost use mathlib.Core.List.{zip_with};
 ghost use Rattle.g722.specs.Band.{slide, term, filtez, filtep, gain, upzero, four, turned, uppol2, uppol1, next_zeros, next_poles};
@@ -8,7 +10,7 @@ use arith::{add, clamp, equal, mul, pick, same_sign, sub, wide};
 use g722::{Band, Factors, Poles, Zeros};
 
 // What is known before the difference: SZ, the output of the transversal part, and S, the prediction.
-#[derive(Drop)]
+#[derive(Clone, Copy)]
 pub struct Estimates {
     pub sz: i16,
     pub s: i16,

@@ -2,28 +2,29 @@
 use mathlib.Core.Path.{refl}
 use base.Stored.{coded_list, coded_ℕ, coded_ℤ}
 use Rattle.laws.specs.One.{LeavesOne, equation, call}
-use Rattle.big_endian.proofs as bigendian
+use Rattle.big_endian.proofs as big_endian
+use Rattle.big_endian.specs.contracts as contracts
 
-pub byte : LeavesOne bigendian.byte.ended (λ M. bigendian.byte.clauses) bigendian.byte.Symbol.routine
-byte = equation (λ κs a l m. refl) (λ M. bigendian.byte.Met.met)
+pub byte : LeavesOne contracts.byte.ended (λ M 𝓤. contracts.byte.clauses) big_endian.byte.Symbol.name big_endian.byte.Symbol.code
+byte = equation (λ κs a l m. refl) (λ M. big_endian.byte.Met.met)
 
-pub two_at : LeavesOne bigendian.two_at.ended (λ M. bigendian.two_at.clauses) bigendian.two_at.Symbol.routine
-two_at = equation (λ κs a l m. refl) (λ M. bigendian.two_at.Met.met)
+pub two_at : LeavesOne contracts.two_at.ended (λ M 𝓤. contracts.two_at.clauses) big_endian.two_at.Symbol.name big_endian.two_at.Symbol.code
+two_at = equation (λ κs a l m. refl) (λ M. big_endian.two_at.Met.met)
 
-pub four_at : LeavesOne bigendian.four_at.ended (λ M. bigendian.four_at.clauses) bigendian.four_at.Symbol.routine
-four_at = equation (λ κs a l m. refl) (λ M. bigendian.four_at.Met.met)
+pub four_at : LeavesOne contracts.four_at.ended (λ M 𝓤. contracts.four_at.clauses) big_endian.four_at.Symbol.name big_endian.four_at.Symbol.code
+four_at = equation (λ κs a l m. refl) (λ M. big_endian.four_at.Met.met)
 
-pub sample : LeavesOne bigendian.sample.ended (λ M. bigendian.sample.clauses) bigendian.sample.Symbol.routine
-sample = equation (λ κs a l m. refl) (λ M. bigendian.sample.Met.met)
+pub sample : LeavesOne contracts.sample.ended (λ M 𝓤. contracts.sample.clauses) big_endian.sample.Symbol.name big_endian.sample.Symbol.code
+sample = equation (λ κs a l m. refl) (λ M. big_endian.sample.Met.met)
 
-pub high : LeavesOne bigendian.high.ended (λ M. bigendian.high.clauses) bigendian.high.Symbol.routine
-high = equation (λ κs a l m. refl) (λ M. bigendian.high.Met.met)
+pub high : LeavesOne contracts.high.ended (λ M 𝓤. contracts.high.clauses) big_endian.high.Symbol.name big_endian.high.Symbol.code
+high = equation (λ κs a l m. refl) (λ M. big_endian.high.Met.met)
 
-pub low : LeavesOne bigendian.low.ended (λ M. bigendian.low.clauses) bigendian.low.Symbol.routine
-low = equation (λ κs a l m. refl) (λ M. bigendian.low.Met.met)
+pub low : LeavesOne contracts.low.ended (λ M 𝓤. contracts.low.clauses) big_endian.low.Symbol.name big_endian.low.Symbol.code
+low = equation (λ κs a l m. refl) (λ M. big_endian.low.Met.met)
 
-pub load : LeavesOne bigendian.load.ended (λ M. bigendian.load.clauses) bigendian.load.Symbol.routine
-load = call (coded_list coded_ℤ) (λ κs a l m e i. (tt, (e i, tt))) (λ M. bigendian.load.Met.met)
+pub load : LeavesOne contracts.load.ended (λ M 𝓤. contracts.load.clauses) big_endian.load.Symbol.name big_endian.load.Symbol.code
+load = call (coded_list coded_ℤ) (λ κs a l m e i. (tt, (e i, tt))) (λ M. big_endian.load.Met.met)
 
-pub store : LeavesOne bigendian.store.ended (λ M. bigendian.store.clauses) bigendian.store.Symbol.routine
-store = call (coded_list coded_ℕ) (λ κs a l m e i. (tt, (e i, tt))) (λ M. bigendian.store.Met.met)
+pub store : LeavesOne contracts.store.ended (λ M 𝓤. contracts.store.clauses) big_endian.store.Symbol.name big_endian.store.Symbol.code
+store = call (coded_list coded_ℕ) (λ κs a l m e i. (tt, (e i, tt))) (λ M. big_endian.store.Met.met)

@@ -3,12 +3,13 @@ use mathlib.Core.Path.{refl}
 use base.Stored.{coded_list, coded_ℕ}
 use Rattle.laws.specs.One.{LeavesOne, equation, call}
 use Rattle.block.proofs as block
+use Rattle.block.specs.contracts as contracts
 
-pub check : LeavesOne block.check.ended (λ M. block.check.clauses) block.check.Symbol.routine
+pub check : LeavesOne contracts.check.ended (λ M 𝓤. contracts.check.clauses) block.check.Symbol.name block.check.Symbol.code
 check = equation (λ κs a l m. refl) (λ M. block.check.Met.met)
 
-pub write : LeavesOne block.write.ended (λ M. block.write.clauses) block.write.Symbol.routine
+pub write : LeavesOne contracts.write.ended (λ M 𝓤. contracts.write.clauses) block.write.Symbol.name block.write.Symbol.code
 write = call (coded_list coded_ℕ) (λ κs a l m e i. (tt, (tt, (tt, (tt, (e i, tt)))))) (λ M. block.write.Met.met)
 
-pub read : LeavesOne block.read.ended (λ M. block.read.clauses) block.read.Symbol.routine
+pub read : LeavesOne contracts.read.ended (λ M 𝓤. contracts.read.clauses) block.read.Symbol.name block.read.Symbol.code
 read = equation (λ κs a l m. refl) (λ M. block.read.Met.met)

@@ -1,4 +1,6 @@
 // The logger's 512-byte blocks (SCOPE, logger blocks): their check, writing one, reading one.
+#![tactic(auto)]
+
 ghost use Rattle.std.specs.Prelude.{◌≡◌, ◌≤◌, length, replicate};
 ghost use Rattle.laws.specs.Outcome.{Does};
 ghost use Rattle.block.specs.Check.{byte_step, check};
@@ -9,7 +11,7 @@ use big_endian::{byte, four_at, two_at};
 use g722::Moved;
 
 // What a block says: the number of SCOPE, and where it is 0 the fields.
-#[derive(Drop)]
+#[derive(Clone, Copy)]
 pub struct BlockRead {
     pub number: u8,
     pub index: usize,

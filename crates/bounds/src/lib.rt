@@ -1,4 +1,6 @@
 // The bounds of records and of samples: SCOPE 2 and 14 to 22.
+#![tactic(auto)]
+
 ghost use Rattle.std.specs.Prelude.{◌≡◌, ◌&&◌, min};
 ghost use Rattle.g722.specs.Coding.{misfit, first_bad};
 ghost use Rattle.g722.specs.Records.{in_range, all_in_range, good_poles, good_low, good_high, reset_band};

@@ -1,5 +1,7 @@
 // The coding call: samples to octets, with its refusals 3, 2, 4 (SCOPE 8). A block of samples goes through the transmit filter first, and
 // then its signals through both bands: so the filter is a loop of its own, which the compiler makes four pairs at a time of.
+#![tactic(auto)]
+
 mod bands;
 
 ghost use Rattle.std.specs.Prelude.{◌≡◌, true, ◌*◌, ◌≤◌, length};
@@ -13,7 +15,7 @@ use g722::{Band, Coded, Coder};
 use mirror::split;
 
 // Both bands.
-#[derive(Drop)]
+#[derive(Clone, Copy)]
 pub struct BothBands {
     pub low: Band,
     pub high: Band,

@@ -1,8 +1,10 @@
 // The conference desk's record and its answer. Types only.
+#![tactic(auto)]
+
 use g722::{Coder, Decoder};
 
 // The desk. The ports in use are the first ones; what stands in the others is of no account.
-#[derive(Drop)]
+#[derive(Clone, Copy)]
 pub struct Desk {
     pub ports: u8,
     pub coders: [Coder; 8],
@@ -11,7 +13,7 @@ pub struct Desk {
 
 // The answer of a call: the number of SCOPE 7, an index that no number of the desk gives a place, how many sums were limited, and the
 // next desk.
-#[derive(Drop)]
+#[derive(Clone, Copy)]
 pub struct Ticked {
     pub number: u8,
     pub index: usize,

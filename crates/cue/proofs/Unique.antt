@@ -2,9 +2,10 @@
 use base.Stored.{coded_list, coded_ℕ}
 use Rattle.laws.specs.One.{LeavesOne, call}
 use Rattle.cue.proofs as cue
+use Rattle.cue.specs.contracts as contracts
 
-pub put : LeavesOne cue.put.ended (λ M. cue.put.clauses) cue.put.Symbol.routine
+pub put : LeavesOne contracts.put.ended (λ M 𝓤. contracts.put.clauses) cue.put.Symbol.name cue.put.Symbol.code
 put = call (coded_list coded_ℕ) (λ κs a l m e i. (tt, (e i, (tt, tt)))) (λ M. cue.put.Met.met)
 
-pub take : LeavesOne cue.take.ended (λ M. cue.take.clauses) cue.take.Symbol.routine
+pub take : LeavesOne contracts.take.ended (λ M 𝓤. contracts.take.clauses) cue.take.Symbol.name cue.take.Symbol.code
 take = call (coded_list coded_ℕ) (λ κs a l m e i. (tt, (tt, (e i, tt)))) (λ M. cue.take.Met.met)

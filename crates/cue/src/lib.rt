@@ -1,4 +1,6 @@
 // The cue channel: data bytes put into the last bits of octets, and taken out of them, highest bit first.
+#![tactic(auto)]
+
 ghost use Rattle.std.specs.Prelude.{◌≡◌, ◌+◌, ◌*◌, ◌^◌, ◌≤◌, ◌<◌, length, take, drop, get_or};
 ghost use Rattle.laws.specs.Outcome.{Does};
 ghost use Rattle.g722.specs.Cue.{bits_of, spelt, gathered, carrying, data_number, put_call, take_call};

@@ -1,5 +1,7 @@
 // Puts the bytes of a file into the octets on standard input, by the cue channel, and writes the octets.
 // The arguments are the mode, 2 or 3, and the file. It has to fill the octets: one byte for 8 octets in mode 2, for 4 in mode 3.
+#![tactic(auto)]
+
 ghost use Rattle.std.specs.Prelude.{◌≤◌};
 
 use libc::{STDERR_FILENO, STDIN_FILENO, STDOUT_FILENO};

@@ -1,5 +1,7 @@
 // Takes out of the octets on standard input the bytes that the cue channel brought, and writes these.
 // The argument is the mode, 2 or 3. The octets are 8 for each byte in mode 2, and 4 in mode 3.
+#![tactic(auto)]
+
 ghost use Rattle.std.specs.Prelude.{◌≤◌};
 
 use libc::{STDERR_FILENO, STDIN_FILENO, STDOUT_FILENO};

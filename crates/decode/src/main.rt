@@ -1,5 +1,7 @@
 // Octets on standard input to samples on standard output, two bytes each and the high byte first.
 // The one argument is the mode, 0 to 3.
+#![tactic(auto)]
+
 ghost use Rattle.std.specs.Prelude.{◌≤◌, length};
 
 use g722::Decoder;
@@ -7,7 +9,7 @@ use libc::{STDERR_FILENO, STDIN_FILENO, STDOUT_FILENO};
 use pcm::decode_chunk;
 
 // What a piece of the stream leaves: the decoder after it, and whether to read on.
-#[derive(Drop)]
+#[derive(Clone, Copy)]
 struct Onward {
     next: Decoder,
     more: bool,

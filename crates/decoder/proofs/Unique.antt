@@ -3,20 +3,21 @@ use mathlib.Core.Path.{refl}
 use base.Stored.{coded×, coded_list, coded_ℤ}
 use Rattle.laws.specs.One.{LeavesOne, equation, call}
 use Rattle.decoder.proofs as decoder
+use Rattle.decoder.specs.contracts as contracts
 
-pub reset : LeavesOne decoder.reset.ended (λ M. decoder.reset.clauses) decoder.reset.Symbol.routine
+pub reset : LeavesOne contracts.reset.ended (λ M 𝓤. contracts.reset.clauses) decoder.reset.Symbol.name decoder.reset.Symbol.code
 reset = equation (λ κs a l m. refl) (λ M. decoder.reset.Met.met)
 
-pub good_decoder : LeavesOne decoder.good_decoder.ended (λ M. decoder.good_decoder.clauses) decoder.good_decoder.Symbol.routine
+pub good_decoder : LeavesOne contracts.good_decoder.ended (λ M 𝓤. contracts.good_decoder.clauses) decoder.good_decoder.Symbol.name decoder.good_decoder.Symbol.code
 good_decoder = equation (λ κs a l m. refl) (λ M. decoder.good_decoder.Met.met)
 
-pub decode : LeavesOne decoder.decode.ended (λ M. decoder.decode.clauses) decoder.decode.Symbol.routine
+pub decode : LeavesOne contracts.decode.ended (λ M 𝓤. contracts.decode.clauses) decoder.decode.Symbol.name decoder.decode.Symbol.code
 decode = call (coded_list coded_ℤ) (λ κs a l m e i. (tt, (tt, (tt, (e i, tt))))) (λ M. decoder.decode.Met.met)
 
-pub hear : LeavesOne decoder.hear.ended (λ M. decoder.hear.clauses) decoder.hear.Symbol.routine
+pub hear : LeavesOne contracts.hear.ended (λ M 𝓤. contracts.hear.clauses) decoder.hear.Symbol.name decoder.hear.Symbol.code
 hear =
     call (coded× (coded_list coded_ℤ) (coded_list coded_ℤ)) (λ κs a l m e i. (tt, (tt, (tt, ((e i).0, ((e i).1, tt))))))
     (λ M. decoder.hear.Met.met)
 
-pub join : LeavesOne decoder.join.ended (λ M. decoder.join.clauses) decoder.join.Symbol.routine
+pub join : LeavesOne contracts.join.ended (λ M 𝓤. contracts.join.clauses) decoder.join.Symbol.name decoder.join.Symbol.code
 join = call (coded_list coded_ℤ) (λ κs a l m e i. (tt, (tt, (tt, (e i, tt))))) (λ M. decoder.join.Met.met)

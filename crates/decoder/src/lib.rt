@@ -1,4 +1,6 @@
 // Decoding: octets to samples in a told mode, with its refusals 1, 3, 2 (SCOPE 8), and the two steps that it is made of.
+#![tactic(auto)]
+
 mod samples;
 mod signals;
 

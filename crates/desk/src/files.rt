@@ -5,7 +5,7 @@ use crate::ticks::{Onward, failed, last, mix, say_left_out, start, with, written
 use conference::Desk;
 
 // How many octets a turn has of the port with the fewest and of the port with the most, or 1001 where a read failed.
-#[derive(Drop)]
+#[derive(Clone, Copy)]
 struct Columns {
     least: usize,
     most: usize,

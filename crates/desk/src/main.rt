@@ -1,6 +1,8 @@
 // Mixes the octets of a desk of 2 to 8 ports, tick after tick: a tick is one octet a port, in and out alike.
 // The arguments are the number of ports and the mode of each, 0 to 3. The ticks stand on standard input and on standard output,
 // port after port; or each port has a file to read and a new file to write, whose names are the arguments that follow.
+#![tactic(auto)]
+
 mod files;
 mod stream;
 mod ticks;

@@ -5,7 +5,7 @@ use conference::Desk;
 use libc::STDERR_FILENO;
 
 // What some ticks leave: the desk after them, how many of their sums were limited, and whether to go on.
-#[derive(Drop)]
+#[derive(Clone, Copy)]
 pub(crate) struct Onward {
     pub(crate) next: Desk,
     pub(crate) limited: u64,

@@ -1,4 +1,6 @@
 // Samples on standard input, two bytes each and the high byte first, to octets on standard output.
+#![tactic(auto)]
+
 ghost use Rattle.std.specs.Prelude.{◌≡◌, ◌+◌, ◌*◌, ◌^◌, ◌≤◌, ◌<◌, length};
 
 use g722::{Coded, Coder};
@@ -6,7 +8,7 @@ use libc::{STDERR_FILENO, STDIN_FILENO, STDOUT_FILENO};
 use pcm::encode_chunk;
 
 // What a piece of the stream leaves: the coder after it, the index of the next sample, and whether to read on.
-#[derive(Drop)]
+#[derive(Clone, Copy)]
 struct Onward {
     next: Coder,
     start: u64,
@@ -14,7 +16,7 @@ struct Onward {
 }
 
 // What the call answered, and whether the octets are written.
-#[derive(Drop)]
+#[derive(Clone, Copy)]
 struct Sent {
     answer: Coded,
     written: bool,

@@ -238,7 +238,7 @@ decoder_step_fits mode d o h =
 pub decoder_told_fits : (d : Decoder) (ts : List Told) → DecoderFits d → DecoderFits (decoder_run d ts)
 unfolding decoder_run
 decoder_told_fits d [] h = h
-decoder_told_fits d (t ∷ ts) h = decoder_told_fits _ ts (decoder_step_fits t.mode d t.octet h)
+decoder_told_fits d (t ∷ ts) h = decoder_told_fits (decoder_step t.mode d t.octet) ts (decoder_step_fits t.mode d t.octet h)
 
 pub decoder_run_fits : (mode : ℕ) (d : Decoder) (o : List ℕ) → DecoderFits d → DecoderFits (decoder_after mode d o)
 decoder_run_fits mode d o h = rw (decoder_run_lem mode d o) (decoder_told_fits d (marked mode o) h)

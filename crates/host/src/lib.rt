@@ -1,5 +1,7 @@
 // The calls for a host that is not Rattle, over numbers and byte slices, but for the two steps of decoding (`host_steps`). The host keeps
 // the state as bytes.
+#![tactic(auto)]
+
 ghost use Rattle.std.specs.Prelude.{◌≡◌, ◌<◌, ◌^◌};
 ghost use Rattle.laws.specs.Outcome.{Does};
 ghost use Rattle.host.specs.Answer.{packed};

@@ -2,16 +2,17 @@
 use base.Stored.{coded×, coded_list, coded_ℕ}
 use Rattle.laws.specs.One.{LeavesOne, call}
 use Rattle.host_steps.proofs as host_steps
+use Rattle.host_steps.specs.contracts as contracts
 
-pub zelcandry_hear : LeavesOne host_steps.zelcandry_hear.ended (λ M. host_steps.zelcandry_hear.clauses)
-    host_steps.zelcandry_hear.Symbol.routine
+pub zelcandry_hear : LeavesOne contracts.zelcandry_hear.ended (λ M 𝓤. contracts.zelcandry_hear.clauses)
+    host_steps.zelcandry_hear.Symbol.name host_steps.zelcandry_hear.Symbol.code
 zelcandry_hear =
     call (coded× (coded_list coded_ℕ) (coded× (coded_list coded_ℕ) (coded_list coded_ℕ)))
     (λ κs a l m e i. ((e i).0, (tt, (tt, ((e i).1.0, ((e i).1.1, tt))))))
     (λ M. host_steps.zelcandry_hear.Met.met)
 
-pub zelcandry_join : LeavesOne host_steps.zelcandry_join.ended (λ M. host_steps.zelcandry_join.clauses)
-    host_steps.zelcandry_join.Symbol.routine
+pub zelcandry_join : LeavesOne contracts.zelcandry_join.ended (λ M 𝓤. contracts.zelcandry_join.clauses)
+    host_steps.zelcandry_join.Symbol.name host_steps.zelcandry_join.Symbol.code
 zelcandry_join =
     call (coded× (coded_list coded_ℕ) (coded_list coded_ℕ)) (λ κs a l m e i. ((e i).0, (tt, (tt, ((e i).1, tt)))))
     (λ M. host_steps.zelcandry_join.Met.met)

@@ -1,5 +1,7 @@
 // The two steps of decoding for a host that is not Rattle. They are a library of their own, which is compiled by itself: in one with
 // `zelcandry_decode` the compiler would no longer put into its loops what the steps call too.
+#![tactic(auto)]
+
 ghost use Rattle.std.specs.Prelude.{◌≡◌, ◌<◌, ◌^◌};
 ghost use Rattle.laws.specs.Outcome.{Does};
 ghost use Rattle.host.specs.Answer.{packed};

@@ -1,7 +1,8 @@
 // The numbers of a band's loop in 32 bits, for stops that can be left out. Types only; what they stand for is in the definitions.
+#![tactic(auto)]
 
 // The recursive part of a predictor: its past signals before their stops, and the doubles of r1 and r2 after theirs.
-#[derive(Drop)]
+#[derive(Clone, Copy)]
 pub struct Recursive {
     pub a1: i32,
     pub a2: i32,
@@ -14,7 +15,7 @@ pub struct Recursive {
 }
 
 // The log factor and the scale factor.
-#[derive(Drop)]
+#[derive(Clone, Copy)]
 pub struct Scales {
     pub log: i32,
     pub scale: i32,

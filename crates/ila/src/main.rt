@@ -1,5 +1,7 @@
 // The scale factor that the codec works out, beside the 353 entries of ILA: at every address that a log factor can give, 223 of them
 // above the table. An argument, if given, is added to the codec's address, so that wrong ones are seen to be caught.
+#![tactic(auto)]
+
 ghost use Rattle.std.specs.Prelude.{◌≡◌, get_or};
 ghost use Rattle.g722.specs.Tables.{ila};
 ghost use Rattle.g722.specs.Quantise.{scale_at};

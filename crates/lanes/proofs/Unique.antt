@@ -2,9 +2,10 @@
 use mathlib.Core.Path.{refl}
 use Rattle.laws.specs.One.{LeavesOne, equation}
 use Rattle.lanes.proofs as lanes
+use Rattle.lanes.specs.contracts as contracts
 
-pub plain : LeavesOne lanes.plain.ended (λ M. lanes.plain.clauses) lanes.plain.Symbol.routine
+pub plain : LeavesOne contracts.plain.ended (λ M 𝓤. contracts.plain.clauses) lanes.plain.Symbol.name lanes.plain.Symbol.code
 plain = equation (λ κs a l m. refl) (λ M. lanes.plain.Met.met)
 
-pub adapt : LeavesOne lanes.adapt.ended (λ M. lanes.adapt.clauses) lanes.adapt.Symbol.routine
+pub adapt : LeavesOne contracts.adapt.ended (λ M 𝓤. contracts.adapt.clauses) lanes.adapt.Symbol.name lanes.adapt.Symbol.code
 adapt = equation (λ κs a l m. refl) (λ M. lanes.adapt.Met.met)

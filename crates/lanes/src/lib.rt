@@ -1,4 +1,6 @@
 // FILTEZ and UPZERO over rows of eight lanes: six coefficients, and two lanes beside them whose past differences are 0.
+#![tactic(auto)]
+
 ghost use Rattle.std.specs.Prelude.{◌≡◌, cond, ◌&&◌, ◌≤◌, pos, negsuc, neg_ℤ, nat_abs, ◌-ℤ◌};
 ghost use mathlib.Core.List.{zip_with};
 ghost use Rattle.std.specs.Int.Signed.{lt_z};
@@ -12,7 +14,7 @@ use arith::{add, mul, wide};
 
 // A plain sum of terms, and whether it is what the chain of stopping sums gives: neither its positive nor its negative terms,
 // added up, leave 16 bits.
-#[derive(Drop)]
+#[derive(Clone, Copy)]
 pub struct PlainSum {
     pub sum: i32,
     pub whole: bool,

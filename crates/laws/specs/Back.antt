@@ -15,17 +15,17 @@ use borrow.Table.Row.{Cx}
 use borrow.Table.Typed.{Mo}
 
 pub back16 : (z : ℤ) → mag z < 2 ^ 15 → to_z w16 (of_z w16 z) ≡ z
-back16 z h = to_z-of_z (record { sfits = h })
+back16 z h = to_z-of_z {w = w16} (record { sfits = h })
 
 pub back32 : (z : ℤ) → mag z < 2 ^ 31 → to_z w32 (of_z w32 z) ≡ z
-back32 z h = to_z-of_z (record { sfits = h })
+back32 z h = to_z-of_z {w = w32} (record { sfits = h })
 
 module _ {n : ℕ} {ps : List (ParamKind n)} {Γ : Cx} {ar : ArgsT ps Γ.locals} {u : Mo Γ} where
   pub got16 : {Q : Out n ps (r_s_num w16)} (d : Called ps (r_s_num w16) Q Γ ar u) → to_z w16 (of_z w16 d.result) ≡ d.result
-  got16 d = to_z-of_z (record { sfits = d.ok })
+  got16 d = to_z-of_z {w = w16} (record { sfits = d.type_inv })
 
   pub got32 : {Q : Out n ps (r_s_num w32)} (d : Called ps (r_s_num w32) Q Γ ar u) → to_z w32 (of_z w32 d.result) ≡ d.result
-  got32 d = to_z-of_z (record { sfits = d.ok })
+  got32 d = to_z-of_z {w = w32} (record { sfits = d.type_inv })
 
 pub wider : {z : ℤ} → SFits w16 z → SFits w32 z
 wider f = sfits_widen tt f

@@ -12,6 +12,8 @@ use base.Stored.{Coded, Coded-set, coded_unit}
 use prog.Memory.{Memory}
 use prog.Model.{Model}
 use prog.Routine.{Routine}
+use prog.Wired.{Code, Wired}
+use mir.Syntax.{Callee}
 use types.Logic.{Logic}
 use contract.Monad.{Fun, fact}
 use contract.Lifetimes.{Lfts}
@@ -51,16 +53,17 @@ module _ (T : Ended) where
     pub at : M
     pub ensured : ((c M 𝓤 𝓛 mem run κs a).ensures ghost r (at_exit T κs a l)).holds at
 
-  -- the code ρ meets the contract: what the function's proof shows
-  abbrev pub Met : Contract T → Routine → Type 2
-  Met c ρ =
+  -- the function f of the code ρ meets the contract, wherever f means that code: what the function's proof shows
+  abbrev pub Met : Contract T → Callee → Code → Type 2
+  Met c f ρ =
       (M : Type 1) (𝓤 : Ura M) (𝓛 : Logic 𝓤) (𝓜 : Model 𝓤 𝓛.H) (𝓡 : Running 𝓤 𝓛.H 𝓜)
-      → Meets 𝓛 T.signature (𝓡.run ρ) (closing 𝓛 T (c M 𝓤 𝓛 𝓜.mem 𝓡.run))
+      → Wired 𝓡.env ρ → Meets 𝓛 T.signature (𝓡.run (𝓡.env f)) (closing 𝓛 T (c M 𝓤 𝓛 𝓜.mem 𝓡.returns))
 
-  -- The code ρ meets the contract; the contract asks nothing of an input; and any two answers that it allows on one input are equal, as
-  -- are any two contents of lent memory. So whatever else meets the contract answers as ρ does, and leaves what ρ leaves.
-  pub record LeavesOne (c : Contract T) (ρ : Routine) : Type 2 where
-    pub met : Met c ρ
+  -- The function f of the code ρ meets the contract; the contract asks nothing of an input; and any two answers that it allows on one
+  -- input are equal, as are any two contents of lent memory. So whatever else meets the contract answers as f does, and leaves what f
+  -- leaves.
+  pub record LeavesOne (c : Contract T) (f : Callee) (ρ : Code) : Type 2 where
+    pub met : Met c f ρ
     pub asks : (M : Type 1) (𝓤 : Ura M) (𝓛 : Logic 𝓤) (mem : Memory → SProp 𝓤) (run : Routine → Fun 𝓤)
         → (κs : Lifetimes) (a : Input κs)
         → (g : (c M 𝓤 𝓛 mem run κs a).ghost) × ent 𝓤 (emp 𝓤) ((c M 𝓤 𝓛 mem run κs a).requires g)
@@ -81,11 +84,11 @@ module _ {T : Ended} where
   claims prop p f = ∥∥₁_elim p.ensured prop (λ i. f i.0)
 
   -- The contract leaves one answer where the claim does, with one value of what is seen of lent memory, which is all that is left there.
-  leaves : {φ : Claims T} {ρ : Routine} {X : Type 0} → Coded X → (see : (κs : Lifetimes T) → AtExit T κs → X)
+  leaves : {φ : Claims T} {k : Callee} {ρ : Code} {X : Type 0} → Coded X → (see : (κs : Lifetimes T) → AtExit T κs → X)
       → ((κs : Lifetimes T) (a : Input T κs) (l m : Lasts T κs a) → see κs (at_exit T κs a l) ≡ see κs (at_exit T κs a m) → l ≡ m)
       → ((κs : Lifetimes T) (a : Input T κs) (r s : Answer T κs) (e f : AtExit T κs)
       → φ κs a r e → φ κs a s f → (r ≡ s) × (see κs e ≡ see κs f))
-      → Met T (Claim T φ) ρ → LeavesOne T (Claim T φ) ρ
+      → Met T (Claim T φ) k ρ → LeavesOne T (Claim T φ) k ρ
   leaves {φ} coded see all same met = record {
     met = met;
     asks = λ M 𝓤 𝓛 mem run κs a. (tt, id⊢ 𝓤 (emp 𝓤));
@@ -100,23 +103,23 @@ module _ {T : Ended} where
   }
 
   -- where the claim leaves one answer, and no memory is lent to write in
-  pub claimed : {φ : Claims T} {ρ : Routine}
+  pub claimed : {φ : Claims T} {k : Callee} {ρ : Code}
       → ((κs : Lifetimes T) (a : Input T κs) (l m : Lasts T κs a) → l ≡ m)
       → ((κs : Lifetimes T) (a : Input T κs) (r s : Answer T κs) (e f : AtExit T κs) → φ κs a r e → φ κs a s f → r ≡ s)
-      → Met T (Claim T φ) ρ → LeavesOne T (Claim T φ) ρ
+      → Met T (Claim T φ) k ρ → LeavesOne T (Claim T φ) k ρ
   claimed {φ} still same met =
       leaves {φ = φ} coded_unit (λ κs e. tt) (λ κs a l m seen. still κs a l m) (λ κs a r s e f p q. (same κs a r s e f p q, refl)) met
 
   -- as where the answer is said to equal a value
-  pub equation : {f : (κs : Lifetimes T) → Input T κs → Answer T κs} {ρ : Routine}
+  pub equation : {f : (κs : Lifetimes T) → Input T κs → Answer T κs} {k : Callee} {ρ : Code}
       → ((κs : Lifetimes T) (a : Input T κs) (l m : Lasts T κs a) → l ≡ m)
-      → Met T (Claim T (λ κs a r e. r ≡ f κs a)) ρ → LeavesOne T (Claim T (λ κs a r e. r ≡ f κs a)) ρ
+      → Met T (Claim T (λ κs a r e. r ≡ f κs a)) k ρ → LeavesOne T (Claim T (λ κs a r e. r ≡ f κs a)) k ρ
   equation {f} still met = claimed {φ = λ κs a r e. r ≡ f κs a} still (λ κs a r s e e' p q. p ∙ sym q) met
 
   -- where the answer, and what is seen of the lent memory, are said to be those of an outcome
   pub call : {X : Type 0} {f : (κs : Lifetimes T) → Input T κs → Outcome (Answer T κs) X} {see : (κs : Lifetimes T) → AtExit T κs → X}
-      → {ρ : Routine} → Coded X
+      → {k : Callee} {ρ : Code} → Coded X
       → ((κs : Lifetimes T) (a : Input T κs) (l m : Lasts T κs a) → see κs (at_exit T κs a l) ≡ see κs (at_exit T κs a m) → l ≡ m)
-      → Met T (Claim T (λ κs a r e. Does (f κs a) r (see κs e))) ρ → LeavesOne T (Claim T (λ κs a r e. Does (f κs a) r (see κs e))) ρ
+      → Met T (Claim T (λ κs a r e. Does (f κs a) r (see κs e))) k ρ → LeavesOne T (Claim T (λ κs a r e. Does (f κs a) r (see κs e))) k ρ
   call {f} {see} coded all met =
       leaves {φ = λ κs a r e. Does (f κs a) r (see κs e)} coded see all (λ κs a r s e e' p q. once p q) met

@@ -1,1 +1,2 @@
 // Laws that several proofs cite. This crate has no code.
+#![tactic(auto)]

@@ -1,4 +1,6 @@
 // The lines of a listing, as bytes. A line is written from its end to its start, into the end of 160 bytes.
+#![tactic(auto)]
+
 ghost use Rattle.std.specs.Prelude.{◌≡◌, [], ◌∷◌, ◌+◌, ◌<◌, length};
 ghost use Rattle.lines.specs.Decimal.{decimal, signed};
 ghost use Rattle.lines.specs.Lines.{line_of, Ready, Wrote, block_line, refused_line, overload_line};
@@ -6,7 +8,7 @@ ghost use Rattle.lines.specs.Lines.{line_of, Ready, Wrote, block_line, refused_l
 use arith::size;
 
 // Bytes that end with a line: it stands from `at` on, behind zeros.
-#[derive(Drop)]
+#[derive(Clone, Copy)]
 pub struct Line {
     pub bytes: [u8; 160],
     pub at: usize,

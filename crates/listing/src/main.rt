@@ -1,4 +1,6 @@
 // Lists a recording from standard input: one line per block, each take decoded from reset, and a last line at the first refusal.
+#![tactic(auto)]
+
 ghost use Rattle.std.specs.Prelude.{◌≡◌, ◌≤◌, length};
 ghost use Rattle.lines.specs.Lines.{line_of};
 ghost use Rattle.listing.specs.Listed.{listed};
@@ -8,7 +10,7 @@ use lines::Line;
 use playing::{Played, Player};
 
 // What a block leaves: the player after it, and whether to read on.
-#[derive(Drop)]
+#[derive(Clone, Copy)]
 struct Onward {
     next: Player,
     more: bool,

@@ -1,5 +1,7 @@
 // Logs the octets on standard input: blocks of 480 octets, the last with what is left, numbered from 0.
 // The arguments are the take number and the mode, 1 to 3.
+#![tactic(auto)]
+
 use libc::{STDERR_FILENO, STDIN_FILENO, STDOUT_FILENO};
 
 // Writes a block of octets and answers whether that was done.

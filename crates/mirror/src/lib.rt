@@ -1,5 +1,7 @@
 // The two quadrature mirror filters of section 5, over a block of at most 160 pairs. Each filter goes over two rows of numbers, the past
 // ones first, with twelve taps at every place: so the compiler takes several places at a time. Time runs left to right in every array.
+#![tactic(auto)]
+
 mod receive;
 mod rows;
 mod transmit;
@@ -14,14 +16,14 @@ pub use receive::join;
 pub use transmit::split;
 
 // What the transmit filter leaves of a block: how many of its signals were limited, and the 22 samples that the next one sees again.
-#[derive(Drop)]
+#[derive(Clone, Copy)]
 pub struct Parted {
     pub limited: u32,
     pub past: [i16; 22],
 }
 
 // What the receive filter leaves of a block: how many of its samples were limited, and the eleven pairs that the next one sees again.
-#[derive(Drop)]
+#[derive(Clone, Copy)]
 pub struct Joined {
     pub limited: u32,
     pub past: Pairs,

@@ -3,9 +3,10 @@ use mathlib.Core.Path.{refl}
 use base.Stored.{coded_list, coded_ℕ}
 use Rattle.laws.specs.One.{LeavesOne, equation, call}
 use Rattle.mixer.proofs as mixer
+use Rattle.mixer.specs.contracts as contracts
 
-pub reset : LeavesOne mixer.reset.ended (λ M. mixer.reset.clauses) mixer.reset.Symbol.routine
+pub reset : LeavesOne contracts.reset.ended (λ M 𝓤. contracts.reset.clauses) mixer.reset.Symbol.name mixer.reset.Symbol.code
 reset = equation (λ κs a l m. refl) (λ M. mixer.reset.Met.met)
 
-pub tick : LeavesOne mixer.tick.ended (λ M. mixer.tick.clauses) mixer.tick.Symbol.routine
+pub tick : LeavesOne contracts.tick.ended (λ M 𝓤. contracts.tick.clauses) mixer.tick.Symbol.name mixer.tick.Symbol.code
 tick = call (coded_list coded_ℕ) (λ κs a l m e i. (tt, (tt, (tt, (e i, tt))))) (λ M. mixer.tick.Met.met)

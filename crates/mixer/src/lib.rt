@@ -1,4 +1,6 @@
 // The conference desk: two to eight ports hear each other, one octet from and to each at a tick (SCOPE 79 to 85).
+#![tactic(auto)]
+
 mod check;
 mod sums;
 
@@ -15,7 +17,7 @@ use port::{heard, sent};
 use sums::{others, total};
 
 // All that the ports are sent: how many of their sums were limited, and the coders after it.
-#[derive(Drop)]
+#[derive(Clone, Copy)]
 struct Mixed {
     limited: u32,
     coders: [Coder; 8],

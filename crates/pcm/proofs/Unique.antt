@@ -2,17 +2,18 @@
 use base.Stored.{coded×, coded_list, coded_ℕ}
 use Rattle.laws.specs.One.{LeavesOne, call}
 use Rattle.pcm.proofs as pcm
+use Rattle.pcm.specs.contracts as contracts
 
-pub encode_chunk : LeavesOne pcm.encode_chunk.ended (λ M. pcm.encode_chunk.clauses) pcm.encode_chunk.Symbol.routine
+pub encode_chunk : LeavesOne contracts.encode_chunk.ended (λ M 𝓤. contracts.encode_chunk.clauses) pcm.encode_chunk.Symbol.name pcm.encode_chunk.Symbol.code
 encode_chunk = call (coded_list coded_ℕ) (λ κs a l m e i. (tt, (tt, (e i, tt)))) (λ M. pcm.encode_chunk.Met.met)
 
-pub decode_chunk : LeavesOne pcm.decode_chunk.ended (λ M. pcm.decode_chunk.clauses) pcm.decode_chunk.Symbol.routine
+pub decode_chunk : LeavesOne contracts.decode_chunk.ended (λ M 𝓤. contracts.decode_chunk.clauses) pcm.decode_chunk.Symbol.name pcm.decode_chunk.Symbol.code
 decode_chunk = call (coded_list coded_ℕ) (λ κs a l m e i. (tt, (tt, (tt, (e i, tt))))) (λ M. pcm.decode_chunk.Met.met)
 
-pub hear_chunk : LeavesOne pcm.hear_chunk.ended (λ M. pcm.hear_chunk.clauses) pcm.hear_chunk.Symbol.routine
+pub hear_chunk : LeavesOne contracts.hear_chunk.ended (λ M 𝓤. contracts.hear_chunk.clauses) pcm.hear_chunk.Symbol.name pcm.hear_chunk.Symbol.code
 hear_chunk =
     call (coded× (coded_list coded_ℕ) (coded_list coded_ℕ)) (λ κs a l m e i. (tt, (tt, (tt, ((e i).0, ((e i).1, tt))))))
     (λ M. pcm.hear_chunk.Met.met)
 
-pub join_chunk : LeavesOne pcm.join_chunk.ended (λ M. pcm.join_chunk.clauses) pcm.join_chunk.Symbol.routine
+pub join_chunk : LeavesOne contracts.join_chunk.ended (λ M 𝓤. contracts.join_chunk.clauses) pcm.join_chunk.Symbol.name pcm.join_chunk.Symbol.code
 join_chunk = call (coded_list coded_ℕ) (λ κs a l m e i. (tt, (tt, (tt, (e i, tt))))) (λ M. pcm.join_chunk.Met.met)

@@ -1,4 +1,6 @@
 // PCM: one chunk of a stream of samples as bytes through either end, or through one step of decoding.
+#![tactic(auto)]
+
 mod chunk;
 mod signals;
 

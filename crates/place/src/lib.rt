@@ -1,4 +1,6 @@
 // A port's decoder record, updated where it stands in the desk's table.
+#![tactic(auto)]
+
 ghost use Rattle.std.specs.Prelude.{◌≡◌, ◌<◌, set};
 
 use g722::Decoder;

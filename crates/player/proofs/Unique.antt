@@ -3,9 +3,10 @@ use mathlib.Core.Path.{refl}
 use base.Stored.{coded_list, coded_ℤ}
 use Rattle.laws.specs.One.{LeavesOne, equation, call}
 use Rattle.player.proofs as player
+use Rattle.player.specs.contracts as contracts
 
-pub start : LeavesOne player.start.ended (λ M. player.start.clauses) player.start.Symbol.routine
+pub start : LeavesOne contracts.start.ended (λ M 𝓤. contracts.start.clauses) player.start.Symbol.name player.start.Symbol.code
 start = equation (λ κs a l m. refl) (λ M. player.start.Met.met)
 
-pub play : LeavesOne player.play.ended (λ M. player.play.clauses) player.play.Symbol.routine
+pub play : LeavesOne contracts.play.ended (λ M 𝓤. contracts.play.clauses) player.play.Symbol.name player.play.Symbol.code
 play = call (coded_list coded_ℤ) (λ κs a l m e i. (tt, (tt, (e i, tt)))) (λ M. player.play.Met.met)

@@ -1,4 +1,6 @@
 // A block of a recording played from inside it, each take from reset (SCOPE, the listing).
+#![tactic(auto)]
+
 ghost use Rattle.std.specs.Prelude.{◌≡◌, true, ◌*◌, length};
 ghost use Rattle.laws.specs.Outcome.{Does};
 ghost use Rattle.g722.specs.Records.{good_decoder};

@@ -1,4 +1,6 @@
 // One port: its octet through the first step of decoding, and its octet out of the two sub-band coders.
+#![tactic(auto)]
+
 ghost use Rattle.std.specs.Prelude.{◌≡◌};
 ghost use Rattle.port.specs.Step.{heard_of, sent_of};
 
@@ -8,7 +10,7 @@ use plain::{bands_coded, high_heard, low_heard};
 use quant::in_force;
 
 // What a port's octet gives: its two signals, and the decoder after it.
-#[derive(Drop)]
+#[derive(Clone, Copy)]
 pub struct Signals {
     pub rl: i16,
     pub rh: i16,
@@ -40,7 +42,7 @@ pub fn heard(d: Decoder, told: u8, octet: u8) -> Signals
 }
 
 // What a port is sent: an octet, how many of its two sums were limited, and the coder after it.
-#[derive(Drop)]
+#[derive(Clone, Copy)]
 pub struct Reply {
     pub octet: u8,
     pub limited: u32,

@@ -1,4 +1,6 @@
 // Blocks 1, 2, 3 and 5 of section 6: the level search, the inverse quantisers, and the log and scale factors.
+#![tactic(auto)]
+
 mod factors;
 mod inverse;
 mod levels;

@@ -1,18 +1,20 @@
 // A recording, 512-byte blocks one after another, walked block by block (SCOPE, the reader).
+#![tactic(auto)]
+
 ghost use Rattle.std.specs.Prelude.{◌≡◌, ◌+◌, ◌^◌, ◌<◌};
 ghost use Rattle.reader.specs.Walk.{ended, stood, step_at, next_at};
 
 use block::BlockRead;
 
 // A lent recording and the number of the block at which its walk stands.
-#[derive(Drop)]
+#[derive(Clone, Copy)]
 pub struct Reader<'a> {
     pub src: &'a [u8],
     pub at: usize,
 }
 
 // What stands at a place of a recording, and the place from which the walk goes on.
-#[derive(Drop)]
+#[derive(Clone, Copy)]
 pub struct Step {
     pub end: bool,
     pub block: BlockRead,

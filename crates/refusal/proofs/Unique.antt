@@ -2,9 +2,10 @@
 use mathlib.Core.Path.{refl}
 use Rattle.laws.specs.One.{LeavesOne, equation}
 use Rattle.refusal.proofs as refusal
+use Rattle.refusal.specs.contracts as contracts
 
-pub say : LeavesOne refusal.say.ended (λ M. refusal.say.clauses) refusal.say.Symbol.routine
+pub say : LeavesOne contracts.say.ended (λ M 𝓤. contracts.say.clauses) refusal.say.Symbol.name refusal.say.Symbol.code
 say = equation (λ κs a l m. refl) (λ M. refusal.say.Met.met)
 
-pub overload : LeavesOne refusal.overload.ended (λ M. refusal.overload.clauses) refusal.overload.Symbol.routine
+pub overload : LeavesOne contracts.overload.ended (λ M 𝓤. contracts.overload.clauses) refusal.overload.Symbol.name refusal.overload.Symbol.code
 overload = equation (λ κs a l m. refl) (λ M. refusal.overload.Met.met)

@@ -1,4 +1,6 @@
 // What a program says of a refusal, and of an overload.
+#![tactic(auto)]
+
 ghost use Rattle.std.specs.Prelude.{◌≡◌, ◌≤◌, length};
 
 use libc::STDERR_FILENO;

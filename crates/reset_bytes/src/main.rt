@@ -1,5 +1,7 @@
 // Prints the lengths and the reset bytes of both states as the macros that include/zelcandry.h has: what the records at reset are as
 // bytes stands there by the code that writes states, and by nobody's hand.
+#![tactic(auto)]
+
 use libc::{STDERR_FILENO, STDOUT_FILENO};
 
 // Byte i of a list: 25 stand on a line.

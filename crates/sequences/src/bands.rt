@@ -7,14 +7,14 @@ use g722::Band;
 use plain::{high_coded, high_heard, low_coded, low_heard};
 
 // Both bands, of which a decoder moves only its own.
-#[derive(Drop)]
+#[derive(Clone, Copy)]
 struct Bands {
     low: Band,
     high: Band,
 }
 
 // A word's two bytes, and the bands after it.
-#[derive(Drop)]
+#[derive(Clone, Copy)]
 struct Output {
     first: u8,
     second: u8,

@@ -1,6 +1,8 @@
 // Runs the test sequences of appendix II of G.722 through the sub-band coders and decoders, without the mirror filters.
 // The arguments are pairs of files, an input and what is expected of it. The last letter of the expected file says what
 // makes it: D the coders, 1 to 3 the low decoder in that mode, 0 the high decoder.
+#![tactic(auto)]
+
 mod bands;
 mod text;
 

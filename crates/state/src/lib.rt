@@ -1,4 +1,6 @@
 // A record as the bytes that a host keeps: which record it is, then its values, two bytes each, high byte first.
+#![tactic(auto)]
+
 mod read;
 mod write;
 

@@ -1,5 +1,7 @@
 // SCOPE, sum 13, for every c: after 24 equal samples c, XL is c and XH is 0.
 // Two arguments, if given, make wrong levels to be caught: what XL is to differ from c by, and what XH is to be.
+#![tactic(auto)]
+
 use libc::{STDERR_FILENO, STDOUT_FILENO};
 
 // Whether XL and XH are these after 24 samples c.

@@ -1,5 +1,7 @@
 // Pairs of signals on standard input, low then high, two bytes each and the high byte first, to octets on standard output: both
 // sub-band coders from reset, without the transmit filter. They are blocks and take any 16-bit number, so no signal is out of range.
+#![tactic(auto)]
+
 ghost use Rattle.std.specs.Prelude.{◌≡◌, ◌*◌, ◌≤◌, length};
 
 use big_endian::sample;
@@ -8,14 +10,14 @@ use libc::{STDERR_FILENO, STDIN_FILENO, STDOUT_FILENO};
 use plain::bands_coded;
 
 // Both bands of a coder.
-#[derive(Drop)]
+#[derive(Clone, Copy)]
 struct Bands {
     low: Band,
     high: Band,
 }
 
 // What a piece of the stream leaves: the bands after it, and whether to read on.
-#[derive(Drop)]
+#[derive(Clone, Copy)]
 struct Onward {
     next: Bands,
     more: bool,

@@ -1,4 +1,6 @@
 // One band over a block of at most 160 octets, at either end. The low and the high band are one loop: they differ in their tables.
+#![tactic(auto)]
+
 mod code;
 mod factors;
 mod hear;
@@ -16,7 +18,7 @@ pub use hear::hear_band;
 use idle::{Recursive, Scales};
 
 // What a turn gives: the quantised difference, and the next of all but the transversal part.
-#[derive(Drop)]
+#[derive(Clone, Copy)]
 pub(crate) struct Turned {
     pub(crate) d: i16,
     pub(crate) poles: Recursive,
@@ -24,14 +26,14 @@ pub(crate) struct Turned {
 }
 
 // The same with its word, at the coder.
-#[derive(Drop)]
+#[derive(Clone, Copy)]
 pub(crate) struct Said {
     pub(crate) word: u8,
     pub(crate) turn: Turned,
 }
 
 // The same with its signal, at the decoder.
-#[derive(Drop)]
+#[derive(Clone, Copy)]
 pub(crate) struct Heard {
     pub(crate) signal: i16,
     pub(crate) turn: Turned,

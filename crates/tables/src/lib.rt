@@ -1,4 +1,6 @@
 // The leaves of Tables 14 and 15 of section 6: an entry read at an address, and the scale factor that an address gives.
+#![tactic(auto)]
+
 mod entries;
 mod scale;
 

@@ -1,4 +1,6 @@
 // Walks a recording, lent as a whole, by the reader, and writes the lines of the listing. A recording of up to 128 blocks is read.
+#![tactic(auto)]
+
 ghost use Rattle.std.specs.Prelude.{◌≡◌, ◌≤◌, length};
 ghost use Rattle.reader.specs.Walk.{step_at, next_at};
 
@@ -50,7 +52,7 @@ fn line(s: Step, first: i16, last: i16, limited: u32, before: usize) -> Line
 }
 
 // What a block leaves: the player after it, and whether to walk on.
-#[derive(Drop)]
+#[derive(Clone, Copy)]
 struct Onward {
     next: Player,
     more: bool,

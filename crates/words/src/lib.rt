@@ -1,4 +1,6 @@
 // Code words to sign and interval, and back, decided over ranges of the word, with rows for words that are never sent.
+#![tactic(auto)]
+
 ghost use Rattle.std.specs.Prelude.{◌≡◌};
 ghost use Rattle.g722.specs.Words.{to_six, from_four, from_six, from_five, to_two, from_two};
 

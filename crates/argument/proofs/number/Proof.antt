@@ -16,34 +16,34 @@ more : (s : List ℕ) (n next i : ℕ) → i < length s → next ≡ with n (get
 unfolding on
 more s n next i h e = rw (drop_one s i 0 h, e)
 
-abbrev invariant-loop : tie.invariant-loop
+abbrev invariant-loop : tie.invariant-loop-i
 invariant-loop word all₀ i₀ all i = (i ≤ length word) × (all ≤ 4294967296) × (on all (drop i word) ≡ number_of word)
 
-abbrev decreases-loop : tie.decreases-loop
+abbrev decreases-loop : tie.decreases-loop-i
 decreases-loop word all₀ i₀ all i = length word - i
 
-returns : tie.Need-returns invariant-loop decreases-loop
+returns : tie.Need-returns-then-word-eq0 invariant-loop decreases-loop
 unfolding number_of
-returns c = simp (eq-eqb _ _ c.if1.true)
+returns c = simp (eq-eqb _ _ c.if-word-eq0.true)
 
-loop-holds : tie.Need-loop-init invariant-loop decreases-loop
+loop-holds : tie.Need-loop-i-init invariant-loop decreases-loop
 unfolding number_of
-loop-holds c = (omega arith, omega arith, simp (ne_eqb _ _ c.if1.false))
+loop-holds c = (omega arith, omega arith, simp (ne_eqb _ _ c.if-word-eq0.false))
 
-loop-again : tie.Need-loop-preserved invariant-loop decreases-loop
+loop-again : tie.Need-loop-i-preserved invariant-loop decreases-loop
 loop-again c =
-    let l = c.before.before.before.loop in
-    (omega arith, omega arith, more _ l.all _ l.i (omega arith) c.with.ensures.0 ∙ l.invariant.2)
+    let l = c.before.before.before.loop-i in
+    (omega arith, omega arith, more _ l.all _ l.i (omega arith) c.with-all.ensures.0 ∙ l.invariant.2)
 
-returns-2 : tie.Need-returns-2 invariant-loop decreases-loop
+returns-2 : tie.Need-returns invariant-loop decreases-loop
 unfolding on
 returns-2 c =
-    let l = c.before.loop in
+    let l = c.before.loop-i in
     let h : length c.before.before.before.before.args.word.now ≤ l.i = omega arith in
     rw (drop_of_length-le _ h) at l.invariant.2
 
-pub number-spec : {M : Type 1} → statement M
-number-spec =
+pub number_spec : {M : Type 1} → statement M
+number_spec =
     tie.close
     (tie.spec
     invariant-loop

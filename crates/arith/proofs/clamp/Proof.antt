@@ -9,32 +9,32 @@ use Rattle.laws.specs.Size.{fits_between}
 use Rattle.arith.proofs.clamp.Statement.{statement}
 use Rattle.arith.proofs.clamp.Tie as tie
 
-returns : tie.Need-returns
+returns : tie.Need-returns-then-x-wide
 returns c =
     let s = c.before.before in
     let t : lt_z s.args.x s.args.lo ≡ true = cc (to_z-of_z s.ranges.x, to_z-of_z s.ranges.lo, got32 c.before.wide) in
     to_z-of_z s.ranges.lo ∙ sym (clamp_low _ _ _ t)
 
 -- the first test failed
-above : (c : tie.Else1) → lt_z c.before.before.args.x c.before.before.args.lo ≡ false
+above : (c : tie.Else-x-wide) → lt_z c.before.before.args.x c.before.before.args.lo ≡ false
 above c = let s = c.before.before in cc (to_z-of_z s.ranges.x, to_z-of_z s.ranges.lo, got32 c.before.wide)
 
-returns-2 : tie.Need-returns-2
+returns-2 : tie.Need-returns-then-wide-x
 returns-2 c =
     let s = c.before.before.before.before in
-    let t : lt_z s.args.hi s.args.x ≡ true = cc (to_z-of_z s.ranges.x, to_z-of_z s.ranges.hi, got32 c.before.wide2) in
+    let t : lt_z s.args.hi s.args.x ≡ true = cc (to_z-of_z s.ranges.x, to_z-of_z s.ranges.hi, got32 c.before.wide-2) in
     to_z-of_z s.ranges.hi ∙ sym (clamp_high _ _ _ (above c.before.before) t)
 
 -- the second test failed
-below : (c : tie.Else2) → lt_z c.before.before.before.before.args.hi c.before.before.before.before.args.x ≡ false
-below c = let s = c.before.before.before.before in cc (to_z-of_z s.ranges.x, to_z-of_z s.ranges.hi, got32 c.before.wide2)
+below : (c : tie.Else-wide-x) → lt_z c.before.before.before.before.args.hi c.before.before.before.before.args.x ≡ false
+below c = let s = c.before.before.before.before in cc (to_z-of_z s.ranges.x, to_z-of_z s.ranges.hi, got32 c.before.wide-2)
 
-cast-result : tie.Need-overflow-cast-result
+cast-result : tie.Need-overflow_cast-result
 cast-result c =
     let s = c.before.before.before.before in
     rw (to_z-of_z s.ranges.x) (fits_between s.ranges.lo s.ranges.hi (above c.before.before) (below c))
 
-returns-3 : tie.Need-returns-3
+returns-3 : tie.Need-returns
 returns-3 c =
     let s = c.before.before.before.before in
     to_z-of_z (cast-result c) ∙ (to_z-of_z s.ranges.x ∙ sym (clamp_mid _ _ _ (above c.before.before) (below c)))

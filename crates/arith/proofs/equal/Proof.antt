@@ -8,5 +8,5 @@ returns : tie.Need-returns
 unfolding equal
 returns c = cc (to_z-of_z c.before.ranges.a, to_z-of_z c.before.ranges.b)
 
-pub equal-spec : {M : Type 1} → statement M
-equal-spec = tie.close (tie.spec (λ c κs. tt) returns)
+pub equal_spec : {M : Type 1} → statement M
+equal_spec = tie.close (tie.spec (λ c κs. tt) returns)

@@ -26,10 +26,10 @@ returns : tie.Need-returns
 unfolding limited limit
 returns c =
     let x = c.before.before.ranges.x in
-    let value = got16 c.before.clamp ∙ c.before.clamp.ensures ∙ ap limit (to_z-of_z x) in
+    let value = got16 c.before.clamp-value ∙ c.before.clamp-value.ensures ∙ ap limit (to_z-of_z x) in
     let wide = c.wide.ensures ∙ value in
-    let changed = one_word (record { sfits = c.wide.type-inv }) x ∙ ap (λ (v : ℤ). equal v c.before.before.args.x) wide in
+    let changed = one_word (record { sfits = c.wide.type_inv }) x ∙ ap (λ (v : ℤ). equal v c.before.before.args.x) wide in
     λ i. record { value = value i; changed = not (changed i) }
 
-pub limit-spec : {M : Type 1} → statement M
-limit-spec = tie.close (tie.spec (λ c κs. tt) (λ c κs. tt) returns)
+pub limit_spec : {M : Type 1} → statement M
+limit_spec = tie.close (tie.spec (λ c κs. tt) (λ c κs. tt) returns)

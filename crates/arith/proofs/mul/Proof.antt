@@ -6,10 +6,10 @@ use Rattle.laws.specs.Size.{product_fits, shr_fits}
 use Rattle.arith.proofs.mul.Statement.{statement}
 use Rattle.arith.proofs.mul.Tie as tie
 
-mul-clamp : tie.Need-overflow-mul-clamp
+mul-clamp : tie.Need-overflow_mul-wide
 mul-clamp c =
     let s = c.before.before in
-    rw (widened c.before.wide.type-inv c.before.wide.ensures s.ranges.a, widened c.wide2.type-inv c.wide2.ensures s.ranges.b)
+    rw (widened c.before.wide.type_inv c.before.wide.ensures s.ranges.a, widened c.wide-2.type_inv c.wide-2.ensures s.ranges.b)
     (product_fits s.ranges.a s.ranges.b)
 
 returns : tie.Need-returns
@@ -21,11 +21,11 @@ returns c =
       got16 c.clamp,
       to_z-of_z (shr_fits 32768 m),
       to_z-of_z m,
-      got32 c.before.wide2,
+      got32 c.before.wide-2,
       got32 c.before.before.wide,
       to_z-of_z s.ranges.a,
       to_z-of_z s.ranges.b,
     )
 
-pub mul-spec : {M : Type 1} → statement M
-mul-spec = tie.close (tie.spec (λ c κs. tt) (λ c κs. tt) mul-clamp (λ c κs. tt) returns)
+pub mul_spec : {M : Type 1} → statement M
+mul_spec = tie.close (tie.spec (λ c κs. tt) (λ c κs. tt) mul-clamp (λ c κs. tt) returns)

@@ -29,26 +29,26 @@ signed {v} {n} e h = rw e (record { sfits = h })
 unsigned : {v : ℤ} {n : ℕ} → v ≡ pos n → n < 2 ^ 15 → T (non_neg v) × Fits w16 (nat_abs v)
 unsigned {v} {n} e h = rw e (tt, record { fits = omega arith })
 
-below : (c : tie.Then1) → negsuc 0 -ℤ to_z w16 (of_z w16 c.before.args.x) ≡ pos (mag c.before.args.x)
-below c = rw (to_z-of_z c.before.ranges.x) (negated c.before.args.x (rw (to_z-of_z c.before.ranges.x) at c.if1.true))
+below : (c : tie.Then-x-lt0) → negsuc 0 -ℤ to_z w16 (of_z w16 c.before.args.x) ≡ pos (mag c.before.args.x)
+below c = rw (to_z-of_z c.before.ranges.x) (negated c.before.args.x (rw (to_z-of_z c.before.ranges.x) at c.if-x-lt0.true))
 
-sub-result : tie.Need-overflow-sub-result
+sub-result : tie.Need-overflow_sub-result
 sub-result c = signed (below c) c.before.ranges.x.sfits
 
-cast-result : tie.Need-overflow-cast-result
+cast-result : tie.Need-overflow_cast-result
 cast-result c = unsigned (to_z-of_z (sub-result c) ∙ below c) c.before.ranges.x.sfits
 
-returns : tie.Need-returns
+returns : tie.Need-returns-then-x-lt0
 returns c = ap nat_abs (to_z-of_z (sub-result c) ∙ below c)
 
-above : (c : tie.Else1) → to_z w16 (of_z w16 c.before.args.x) ≡ pos (mag c.before.args.x)
-above c = to_z-of_z c.before.ranges.x ∙ kept c.before.args.x (rw (to_z-of_z c.before.ranges.x) at c.if1.false)
+above : (c : tie.Else-x-lt0) → to_z w16 (of_z w16 c.before.args.x) ≡ pos (mag c.before.args.x)
+above c = to_z-of_z c.before.ranges.x ∙ kept c.before.args.x (rw (to_z-of_z c.before.ranges.x) at c.if-x-lt0.false)
 
-cast-result-2 : tie.Need-overflow-cast-result-2
+cast-result-2 : tie.Need-overflow_cast-result-2
 cast-result-2 c = unsigned (above c) c.before.ranges.x.sfits
 
-returns-2 : tie.Need-returns-2
+returns-2 : tie.Need-returns
 returns-2 c = ap nat_abs (above c)
 
-pub size-spec : {M : Type 1} → statement M
-size-spec = tie.close (tie.spec sub-result cast-result returns cast-result-2 returns-2)
+pub size_spec : {M : Type 1} → statement M
+size_spec = tie.close (tie.spec sub-result cast-result returns cast-result-2 returns-2)

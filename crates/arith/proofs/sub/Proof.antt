@@ -6,10 +6,10 @@ use Rattle.laws.specs.Size.{difference_fits}
 use Rattle.arith.proofs.sub.Statement.{statement}
 use Rattle.arith.proofs.sub.Tie as tie
 
-sub-clamp : tie.Need-overflow-sub-clamp
+sub-clamp : tie.Need-overflow_sub-wide
 sub-clamp c =
     let s = c.before.before in
-    rw (widened c.before.wide.type-inv c.before.wide.ensures s.ranges.a, widened c.wide2.type-inv c.wide2.ensures s.ranges.b)
+    rw (widened c.before.wide.type_inv c.before.wide.ensures s.ranges.a, widened c.wide-2.type_inv c.wide-2.ensures s.ranges.b)
     (difference_fits s.ranges.a s.ranges.b)
 
 returns : tie.Need-returns
@@ -19,7 +19,7 @@ returns c =
     cc (
       got16 c.clamp,
       to_z-of_z (sub-clamp c.before),
-      got32 c.before.wide2,
+      got32 c.before.wide-2,
       got32 c.before.before.wide,
       to_z-of_z s.ranges.a,
       to_z-of_z s.ranges.b,

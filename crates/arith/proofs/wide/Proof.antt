@@ -4,7 +4,7 @@ use Rattle.laws.specs.Back.{wider}
 use Rattle.arith.proofs.wide.Statement.{statement}
 use Rattle.arith.proofs.wide.Tie as tie
 
-cast-result : tie.Need-overflow-cast-result
+cast-result : tie.Need-overflow_cast-result
 cast-result c = rw (to_z-of_z c.ranges.x) (wider c.ranges.x)
 
 returns : tie.Need-returns

@@ -8,5 +8,5 @@ returns : tie.Need-returns
 unfolding ilb
 returns c = refl
 
-pub ilb-spec : {M : Type 1} → statement M
-ilb-spec = tie.close (tie.spec returns)
+pub ilb_spec : {M : Type 1} → statement M
+ilb_spec = tie.close (tie.spec returns)

@@ -6,13 +6,13 @@ use Rattle.at_hand.specs.Signed.{weight_at, weights_of}
 use Rattle.at_hand.proofs.weights.Statement.{statement}
 use Rattle.at_hand.proofs.weights.Tie as tie
 
-returns : tie.Need-returns
+returns : tie.Need-returns-then-high
 unfolding weights_of weight_at from_two wh
-returns c = rw c.if1.true refl
+returns c = rw c.if-high.true refl
 
-returns-2 : tie.Need-returns-2
+returns-2 : tie.Need-returns
 unfolding weights_of weight_at from_four wl
-returns-2 c = rw c.if1.false refl
+returns-2 c = rw c.if-high.false refl
 
-pub weights-spec : {M : Type 1} → statement M
-weights-spec = tie.close (tie.spec returns returns-2)
+pub weights_spec : {M : Type 1} → statement M
+weights_spec = tie.close (tie.spec returns returns-2)

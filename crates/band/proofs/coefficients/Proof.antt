@@ -9,20 +9,20 @@ use lib.ListN.{length, get_or}
 use mir.Syntax.{w16}
 use mir.Val.{to_z, of_z}
 use mir.Facts.{to_z-of_z}
-use Rattle.laws.specs.Back.{back16, got16}
+use Rattle.laws.specs.Back.{back16}
 use Rattle.laws.specs.Filled.{Filled, fill, filled}
 use Rattle.g722.specs.Band.{upzero}
 use Rattle.laws.specs.Zipped.{zip_length, zip_at}
 use Rattle.band.proofs.coefficients.Statement.{statement}
 use Rattle.band.proofs.coefficients.Tie as tie
 
-abbrev invariant-loop : tie.invariant-loop
+abbrev invariant-loop : tie.invariant-loop-k
 invariant-loop d b past next₀ k₀ next k = (k ≤ 6) × Filled (zip_with (upzero (to_z w16 d)) b past) 6 next k
 
-abbrev decreases-loop : tie.decreases-loop
+abbrev decreases-loop : tie.decreases-loop-k
 decreases-loop d b past next₀ k₀ next k = 6 - k
 
-loop-again : tie.Need-loop-preserved invariant-loop decreases-loop
+loop-again : tie.Need-loop-k-preserved invariant-loop decreases-loop
 loop-again c =
     let c₁ = c.before in
     let c₂ = c₁.before in
@@ -30,15 +30,15 @@ loop-again c =
     let s = l.before.before.before in
     let z = s.args.z in
     let f = upzero (to_z w16 (of_z w16 s.args.d)) in
-    let k = l.loop.k in
+    let k = l.loop-k.k in
     let b6 : length z.b ≡ 6 = search rules in
     let d6 : length z.d ≡ 6 = search rules in
     let e : to_z w16 (of_z w16 c.upzero.result) ≡ get_or (zip_with f z.b z.d) k (pos 0) =
-    rw (got16 c.upzero ∙ c.upzero.ensures, zip_at f z.b z.d k (omega arith) (omega arith))
-    (simp (back16 (get_or z.b k (pos 0)) c₂.upzero-arg.given, back16 (get_or z.d k (pos 0)) c₁.upzero-arg2.given))
+    rw (back16 c.upzero.result c.upzero.type_inv ∙ c.upzero.ensures, zip_at f z.b z.d k (omega arith) (omega arith))
+    (simp (back16 (get_or z.b k (pos 0)) c₂.upzero-arg-1.given, back16 (get_or z.d k (pos 0)) c₁.upzero-arg-in-loop-k-1.given))
     in
     let long = zip_length f z.b z.d (omega arith) in
-    (omega arith, fill (zip_with f z.b z.d) 6 l.loop.invariant.1 (pos 0) (omega arith) (omega arith) e)
+    (omega arith, fill (zip_with f z.b z.d) 6 l.loop-k.invariant.1 (pos 0) (omega arith) (omega arith) e)
 
 returns : tie.Need-returns invariant-loop decreases-loop
 returns c =
@@ -49,10 +49,10 @@ returns c =
     let d6 : length z.d ≡ 6 = search rules in
     let f = upzero (to_z w16 (of_z w16 s.args.d)) in
     let long = zip_length f z.b z.d (omega arith) in
-    rw (to_z-of_z s.ranges.d, append-nil) at (filled (zip_with f z.b z.d) 6 l.loop.invariant.1 [] (omega arith) (omega arith))
+    rw (to_z-of_z s.ranges.d, append-nil) at (filled (zip_with f z.b z.d) 6 l.loop-k.invariant.1 [] (omega arith) (omega arith))
 
-pub coefficients-spec : {M : Type 1} → statement M
-coefficients-spec =
+pub coefficients_spec : {M : Type 1} → statement M
+coefficients_spec =
     tie.close
     (tie.spec
     invariant-loop

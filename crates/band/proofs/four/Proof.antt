@@ -2,7 +2,7 @@
 use mathlib.Core.Path.{◌∙◌}
 use mir.Facts.{to_z-of_z}
 use Rattle.g722.specs.Band.{four}
-use Rattle.laws.specs.Back.{got16}
+use Rattle.laws.specs.Back.{back16}
 use Rattle.band.proofs.four.Statement.{statement}
 use Rattle.band.proofs.four.Tie as tie
 
@@ -11,8 +11,8 @@ unfolding four
 returns c =
     let c1 = c.before in
     let s = c1.before in
-    rw (got16 c.add2 ∙ c.add2.ensures, got16 c1.add ∙ c1.add.ensures)
+    rw (back16 c.add.result c.add.type_inv ∙ c.add.ensures, back16 c1.add-two.result c1.add-two.type_inv ∙ c1.add-two.ensures)
     (simp (to_z-of_z s.ranges.a1))
 
-pub four-spec : {M : Type 1} → statement M
-four-spec = tie.close (tie.spec (λ c κs. tt) (λ c κs. tt) returns)
+pub four_spec : {M : Type 1} → statement M
+four_spec = tie.close (tie.spec (λ c κs. tt) (λ c κs. tt) returns)

@@ -8,8 +8,8 @@ returns : tie.Need-returns
 unfolding next_zeros
 returns c =
     let s = c.before.before.before in
-    rw (c.slide.ensures, c.before.coefficients.ensures)
+    rw (c.slide-row.ensures, c.before.coefficients-b.ensures)
     (simp (to_z-of_z s.ranges.d))
 
-pub next-zeros-spec : {M : Type 1} → statement M
-next-zeros-spec = tie.close (tie.spec (λ c κs. tt) (λ c κs. tt) returns)
+pub next_zeros_spec : {M : Type 1} → statement M
+next_zeros_spec = tie.close (tie.spec (λ c κs. tt) (λ c κs. tt) returns)

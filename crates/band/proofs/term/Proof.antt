@@ -2,7 +2,7 @@
 use mathlib.Core.Path.{◌∙◌}
 use mir.Facts.{to_z-of_z}
 use Rattle.g722.specs.Band.{term}
-use Rattle.laws.specs.Back.{got16}
+use Rattle.laws.specs.Back.{back16}
 use Rattle.band.proofs.term.Statement.{statement}
 use Rattle.band.proofs.term.Tie as tie
 
@@ -11,8 +11,8 @@ unfolding term
 returns c =
     let c1 = c.before in
     let s = c1.before in
-    rw (got16 c.mul ∙ c.mul.ensures, got16 c1.add ∙ c1.add.ensures)
+    rw (back16 c.mul.result c.mul.type_inv ∙ c.mul.ensures, back16 c1.add.result c1.add.type_inv ∙ c1.add.ensures)
     (simp (to_z-of_z s.ranges.b, to_z-of_z s.ranges.d))
 
-pub term-spec : {M : Type 1} → statement M
-term-spec = tie.close (tie.spec (λ c κs. tt) (λ c κs. tt) returns)
+pub term_spec : {M : Type 1} → statement M
+term_spec = tie.close (tie.spec (λ c κs. tt) (λ c κs. tt) returns)

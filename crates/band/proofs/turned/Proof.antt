@@ -3,7 +3,7 @@ use mathlib.Core.Path.{◌∙◌}
 use mir.Syntax.{w16}
 use mir.Facts.{to_z-of_z}
 use Rattle.g722.specs.Band.{turned}
-use Rattle.laws.specs.Back.{back16, got16}
+use Rattle.laws.specs.Back.{back16}
 use Rattle.laws.specs.Size.{shr_fits}
 use Rattle.band.proofs.turned.Statement.{statement}
 use Rattle.band.proofs.turned.Tie as tie
@@ -18,18 +18,18 @@ returns c =
     let c5 = c4.before in
     let s = c5.before in
     rw (
-      got16 c.pick,
-      to_z-of_z {w = w16} (shr_fits {z = c.pick.result} 128 (record { sfits = c.pick.type-inv })),
+      back16 c.pick.result c.pick.type_inv,
+      to_z-of_z {w = w16} (shr_fits {z = c.pick.result} 128 (record { sfits = c.pick.type_inv })),
       c.pick.ensures,
-      got16 c1.sub ∙ c1.sub.ensures,
+      back16 c1.sub.result c1.sub.type_inv ∙ c1.sub.ensures,
       c2.same_sign.ensures,
-      got16 c4.four ∙ c4.four.ensures,
+      back16 c4.four-f.result c4.four-f.type_inv ∙ c4.four-f.ensures,
     )
     (simp (
-      back16 s.args.s.a1 c5.struct_told.given.0.1,
-      back16 s.args.s.p1 c5.struct_told.given.1.1.1.1.0.1,
+      back16 s.args.s.a1 c5.struct_told-1.given.0.1,
+      back16 s.args.s.p1 c5.struct_told-1.given.1.1.1.1.0.1,
       to_z-of_z s.ranges.p,
     ))
 
-pub turned-spec : {M : Type 1} → statement M
-turned-spec = tie.close (tie.spec (λ c κs. tt) (λ c κs. tt) (λ c κs. tt) (λ c κs. tt) returns)
+pub turned_spec : {M : Type 1} → statement M
+turned_spec = tie.close (tie.spec (λ c κs. tt) (λ c κs. tt) (λ c κs. tt) (λ c κs. tt) returns)

@@ -2,7 +2,7 @@
 use mathlib.Core.Path.{◌∙◌}
 use mir.Facts.{to_z-of_z}
 use Rattle.g722.specs.Band.{upzero}
-use Rattle.laws.specs.Back.{got16}
+use Rattle.laws.specs.Back.{back16}
 use Rattle.band.proofs.upzero.Statement.{statement}
 use Rattle.band.proofs.upzero.Tie as tie
 
@@ -16,14 +16,14 @@ returns c =
     let c5 = c4.before in
     let s = c5.before in
     rw (
-      got16 c.add ∙ c.add.ensures,
-      got16 c1.mul ∙ c1.mul.ensures,
-      got16 c2.pick ∙ c2.pick.ensures,
-      got16 c3.sub ∙ c3.sub.ensures,
+      back16 c.add.result c.add.type_inv ∙ c.add.ensures,
+      back16 c1.mul.result c1.mul.type_inv ∙ c1.mul.ensures,
+      back16 c2.pick.result c2.pick.type_inv ∙ c2.pick.ensures,
+      back16 c3.sub.result c3.sub.type_inv ∙ c3.sub.ensures,
       c4.same_sign.ensures,
-      got16 c5.gain ∙ c5.gain.ensures,
+      back16 c5.gain-g.result c5.gain-g.type_inv ∙ c5.gain-g.ensures,
     )
     (simp (to_z-of_z s.ranges.d, to_z-of_z s.ranges.bi, to_z-of_z s.ranges.di))
 
-pub upzero-spec : {M : Type 1} → statement M
-upzero-spec = tie.close (tie.spec (λ c κs. tt) (λ c κs. tt) (λ c κs. tt) (λ c κs. tt) (λ c κs. tt) (λ c κs. tt) returns)
+pub upzero_spec : {M : Type 1} → statement M
+upzero_spec = tie.close (tie.spec (λ c κs. tt) (λ c κs. tt) (λ c κs. tt) (λ c κs. tt) (λ c κs. tt) (λ c κs. tt) returns)

@@ -19,29 +19,29 @@ more : (s : List ℕ) (i : ℕ) → i < length s → all_zero (drop i s) ≡ (eq
 unfolding all_zero
 more s i h = rw (add-one, drop-cons s i 0 h)
 
-abbrev invariant-loop : tie.invariant-loop
+abbrev invariant-loop : tie.invariant-loop-i
 invariant-loop bytes i₀ i = (i ≤ length bytes) × (all_zero bytes ≡ all_zero (drop i bytes))
 
-abbrev decreases-loop : tie.decreases-loop
+abbrev decreases-loop : tie.decreases-loop-i
 decreases-loop bytes i₀ i = length bytes - i
 
-returns : tie.Need-returns invariant-loop decreases-loop
+returns : tie.Need-returns-then-bytes-i-ne0 invariant-loop decreases-loop
 returns c =
-    let l = c.before.before.before.loop in
-    sym (l.invariant.1 ∙ more _ l.i (omega arith) ∙ rw (ne_eqb _ _ c.if1.true))
+    let l = c.before.before.before.loop-i in
+    sym (l.invariant.1 ∙ more _ l.i (omega arith) ∙ rw (ne_eqb _ _ c.if-bytes-i-ne0.true))
 
-loop-again : tie.Need-loop-preserved invariant-loop decreases-loop
+loop-again : tie.Need-loop-i-preserved invariant-loop decreases-loop
 loop-again c =
-    let l = c.before.before.before.loop in
-    (omega arith, l.invariant.1 ∙ more _ l.i (omega arith) ∙ rw (eq-eqb _ _ c.if1.false))
+    let l = c.before.before.before.loop-i in
+    (omega arith, l.invariant.1 ∙ more _ l.i (omega arith) ∙ rw (eq-eqb _ _ c.if-bytes-i-ne0.false))
 
-returns-2 : tie.Need-returns-2 invariant-loop decreases-loop
+returns-2 : tie.Need-returns invariant-loop decreases-loop
 unfolding all_zero
 returns-2 c =
-    let h : length c.before.before.args.bytes.now ≤ c.before.loop.i = omega arith in
-    sym (rw (drop_of_length-le _ h) at c.before.loop.invariant.1)
+    let h : length c.before.before.args.bytes.now ≤ c.before.loop-i.i = omega arith in
+    sym (rw (drop_of_length-le _ h) at c.before.loop-i.invariant.1)
 
-pub all-zero-spec : {M : Type 1} → statement M
-all-zero-spec =
+pub all_zero_spec : {M : Type 1} → statement M
+all_zero_spec =
     tie.close
     (tie.spec invariant-loop decreases-loop (λ c. search rules) (λ c. omega arith) returns (λ c. omega arith) (λ c. omega arith) loop-again returns-2)

@@ -5,13 +5,13 @@ use Rattle.block.specs.Calls.{between}
 use Rattle.block.proofs.between.Statement.{statement}
 use Rattle.block.proofs.between.Tie as tie
 
-returns : tie.Need-returns
+returns : tie.Need-returns-then-lo-x
 unfolding between
-returns c = rw (le-leb _ _ c.if1.true)
+returns c = rw (le-leb _ _ c.if-lo-x.true)
 
-returns-2 : tie.Need-returns-2
+returns-2 : tie.Need-returns
 unfolding between
 returns-2 c = let a = c.before.args in rw (lt-leb a.lo a.x (omega arith))
 
-pub between-spec : {M : Type 1} → statement M
-between-spec = tie.close (tie.spec returns returns-2)
+pub between_spec : {M : Type 1} → statement M
+between_spec = tie.close (tie.spec returns returns-2)

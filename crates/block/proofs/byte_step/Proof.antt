@@ -12,7 +12,7 @@ use Rattle.block.proofs.byte_step.Tie as tie
 met-below : (c : tie.Start) → bit_xor c.args.reg (c.args.byte * 256) < 65536
 met-below c = xor_lt 16 c.args.reg (c.args.byte * 256) (omega arith) (omega arith)
 
-mul-result-2 : tie.Need-overflow-mul-result-2
+mul-result-2 : tie.Need-overflow_mul-result-2
 mul-result-2 c =
     let h = met-below c in
     let high = bit_xor c.args.reg (c.args.byte * 256) / 256 in
@@ -22,5 +22,5 @@ returns : tie.Need-returns
 unfolding byte_step
 returns c = sym (at_once _ (met-below c))
 
-pub byte-step-spec : {M : Type 1} → statement M
-byte-step-spec = tie.close (tie.spec (λ c. search rules) (λ c. search rules) mul-result-2 (λ c. search rules) returns)
+pub byte_step_spec : {M : Type 1} → statement M
+byte_step_spec = tie.close (tie.spec (λ c. search rules) (λ c. search rules) mul-result-2 (λ c. search rules) returns)

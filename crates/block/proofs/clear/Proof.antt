@@ -10,20 +10,20 @@ use borrow.Author.Fill.{fill_more}
 use Rattle.block.proofs.clear.Statement.{statement}
 use Rattle.block.proofs.clear.Tie as tie
 
-abbrev invariant-loop : tie.invariant-loop
+abbrev invariant-loop : tie.invariant-loop-i
 invariant-loop to₀ i₀ to i = (i ≤ length to₀) × (length to ≡ length to₀) × (to ≡ replicate i 0 ++ drop i to₀)
 
-abbrev decreases-loop : tie.decreases-loop
+abbrev decreases-loop : tie.decreases-loop-i
 decreases-loop to₀ i₀ to i = length to₀ - i
 
-loop-again : tie.Need-loop-preserved invariant-loop decreases-loop
+loop-again : tie.Need-loop-i-preserved invariant-loop decreases-loop
 loop-again c =
-    let l = c.before.loop in
+    let l = c.before.loop-i in
     (omega arith, simp length-set l.invariant.1, ap (λ (x : List ℕ). set x l.i 0) l.invariant.2 ∙ fill_more l.i 0 _ (omega arith))
 
 returns : tie.Need-returns invariant-loop decreases-loop
 returns c =
-    let l = c.before.loop in
+    let l = c.before.loop-i in
     let e : l.i ≡ length c.before.before.args.to.now = omega arith in
     rw (e, drop-length, append-nil) at l.invariant.2
 
@@ -31,4 +31,4 @@ pub clear_spec : {M : Type 1} → statement M
 clear_spec =
     tie.close
     (tie.spec invariant-loop decreases-loop (λ c. search rules) (λ c. omega arith) (λ c. omega arith) (λ c. omega arith)
-    loop-again (λ c. c.before.loop.invariant.1) returns)
+    loop-again (λ c. c.before.loop-i.invariant.1) returns)

@@ -15,24 +15,24 @@ more : (t s : List ℕ) (i : ℕ) → i < length t → i < length s → take i t
 more t s i ht hs e =
     rw add-one (take-suc-set t i (get_or s i 0) ht ∙ ap (λ (l : List ℕ). l ++ (get_or s i 0 ∷ [])) e ∙ sym (take-suc s i 0 hs))
 
-abbrev invariant-loop : tie.invariant-loop
+abbrev invariant-loop : tie.invariant-loop-i
 invariant-loop to₀ from i₀ to i = (i ≤ length from) × (length to ≡ length to₀) × (take i to ≡ take i from)
 
-abbrev decreases-loop : tie.decreases-loop
+abbrev decreases-loop : tie.decreases-loop-i
 decreases-loop to₀ from i₀ to i = length from - i
 
-loop-again : tie.Need-loop-preserved invariant-loop decreases-loop
+loop-again : tie.Need-loop-i-preserved invariant-loop decreases-loop
 loop-again c =
-    let l = c.before.before.loop in
+    let l = c.before.before.loop-i in
     (omega arith, simp length-set l.invariant.1, more l.to _ l.i (omega arith) (omega arith) l.invariant.2)
 
 returns : tie.Need-returns invariant-loop decreases-loop
 returns c =
-    let l = c.before.loop in
+    let l = c.before.loop-i in
     sym (take_all l.i l.to (omega arith)) ∙ l.invariant.2 ∙ take_all l.i c.before.before.args.from.now (omega arith)
 
 pub copy_in_spec : {M : Type 1} → statement M
 copy_in_spec =
     tie.close
     (tie.spec invariant-loop decreases-loop (λ c. search rules) (λ c. omega arith) (λ c. omega arith) (λ c. omega arith) (λ c. omega arith)
-    loop-again (λ c. c.before.loop.invariant.1) returns)
+    loop-again (λ c. c.before.loop-i.invariant.1) returns)

@@ -17,11 +17,11 @@ returns c =
     let p = k.before.before.before.before.before in
     let a = p.before.before.before.before.args in
     let b = body a.take a.block a.mode a.octets.now in
-    let bs = p.put-body.new.1.1.1.1.0 in
+    let bs = p.put_body.new.1.1.1.1.0 in
     let l = bs ++ drop 510 a.out.now in
     let n : length bs ≡ 510 = omega arith in
-    let e : take 510 l ≡ b = rw (take_at bs (drop 510 a.out.now) 510 n) p.put-body.ensures in
-    last_two 510 l b _ _ (omega arith) e ∙ rw (c.before.byte.ensures, c.byte2.ensures, k.check.ensures, e)
+    let e : take 510 l ≡ b = rw (take_at bs (drop 510 a.out.now) 510 n) p.put_body.ensures in
+    last_two 510 l b _ _ (omega arith) e ∙ rw (c.before.byte.ensures, c.byte-2.ensures, k.check-sum.ensures, e)
 
 pub put_spec : {M : Type 1} → statement M
 put_spec =

@@ -23,8 +23,8 @@ returns c =
     let octets = a.octets.now in
     let end = 12 + length octets in
     let first = head a.take a.block a.mode (length octets) in
-    let hs = h.copy-in.new.0 in
-    let os = o.copy-in2.new.0 in
+    let hs = h.copy_in.new.0 in
+    let os = o.copy_in-2.new.0 in
     let zs = z.clear.new.0 in
     let l1 = hs ++ drop 12 a.to.now in
     let l2 = put_mid 12 (end - 12) l1 os in
@@ -32,8 +32,8 @@ returns c =
     let n1 : length l1 ≡ 510 = omega arith in
     let n2 : length l2 ≡ 510 = omega arith in
     let n3 : length l3 ≡ 510 = omega arith in
-    let eh : hs ≡ first = rw h.copy-in.ensures s.head.ensures in
-    let eo : os ≡ octets = o.copy-in2.ensures in
+    let eh : hs ≡ first = rw h.copy_in.ensures s.head-first.ensures in
+    let eo : os ≡ octets = o.copy_in-2.ensures in
     let ez : zs ≡ replicate (510 - end) 0 = z.clear.ensures ∙ ap (λ (n : ℕ). replicate n 0) (mid_len end 510 l2 (omega arith)) in
     let lo : length os ≡ end - 12 = ap length eo ∙ omega arith in
     let lz : length zs ≡ 510 - end = ap length ez ∙ length-replicate (510 - end) 0 in
@@ -41,8 +41,8 @@ returns c =
     let p2 = behind 12 end l1 os first (omega arith) (omega arith) lo p1 in
     sym (take_all 510 l3 (omega arith)) ∙ behind end 510 l2 zs (first ++ os) (omega arith) (omega arith) lz p2 ∙ rw (eo, ez)
 
-pub put-body-spec : {M : Type 1} → statement M
-put-body-spec =
+pub put_body_spec : {M : Type 1} → statement M
+put_body_spec =
     tie.close
     (tie.spec
     (λ c. omega arith)

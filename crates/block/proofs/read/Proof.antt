@@ -14,8 +14,8 @@ use Rattle.block.specs.Numbers.{read_6, read_7, read_8, read_done}
 use Rattle.block.proofs.read.Statement.{statement}
 use Rattle.block.proofs.read.Tie as tie
 
-returns : tie.Need-returns
-returns c = c.refused.ensures ∙ sym (read_6 _ c.before.if1.true)
+returns : tie.Need-returns-then-b-ne512
+returns c = c.refused.ensures ∙ sym (read_6 _ c.before.if-b-ne512.true)
 
 -- the code's test of the check is the definition's
 tested : (c : tie.After-well-formed)
@@ -23,34 +23,34 @@ tested : (c : tie.After-well-formed)
     eqb c.before.before.check.result c.before.two_at.result ≡ eqb (check (take 510 b)) (two_at b 510)
 tested c = ap₂ eqb c.before.before.check.ensures c.before.two_at.ensures
 
-returns-2 : tie.Need-returns-2
+returns-2 : tie.Need-returns-then-not-right
 returns-2 c =
     let w = c.before.before in
     let l = w.before.before.before.before in
     let b = l.before.before.args.b.now in
-    let wrong : eqb (check (take 510 b)) (two_at b 510) ≡ false = sym (tested w) ∙ not-true _ c.before.if2.true in
-    c.refused2.ensures ∙ sym (read_7 _ l.if1.false (eqb-false _ _ wrong))
+    let wrong : eqb (check (take 510 b)) (two_at b 510) ≡ false = sym (tested w) ∙ not-true _ c.before.if-not-right.true-raw in
+    c.refused-then-not-right.ensures ∙ sym (read_7 _ l.if-b-ne512.false (eqb-false _ _ wrong))
 
 -- the check is right
-right : (c : tie.Else2) → let b = c.before.before.before.before.before.before.before.args.b.now in
+right : (c : tie.Else-not-right) → let b = c.before.before.before.before.before.before.before.args.b.now in
     check (take 510 b) ≡ two_at b 510
-right c = eqb-true _ _ (sym (tested c.before) ∙ not-false _ c.if2.false)
+right c = eqb-true _ _ (sym (tested c.before) ∙ not-false _ c.if-not-right.false-raw)
 
-returns-3 : tie.Need-returns-3
+returns-3 : tie.Need-returns-then-not-formed
 returns-3 c =
     let d = c.before.before in
     let l = d.before.before.before.before.before in
     let f : well_formed l.before.before.args.b.now ≡ false = sym d.before.well-formed-2.ensures
-    ∙ not-true _ c.before.if3.true in
-    c.refused3.ensures ∙ sym (read_8 _ l.if1.false (right d) (λ h. no (sym (formed_within _ l.if1.false h) ∙ f)))
+    ∙ not-true _ c.before.if-not-formed.true-raw in
+    c.refused-then-not-formed.ensures ∙ sym (read_8 _ l.if-b-ne512.false (right d) (λ h. no (sym (formed_within _ l.if-b-ne512.false h) ∙ f)))
 
-returns-4 : tie.Need-returns-4
+returns-4 : tie.Need-returns
 returns-4 c =
     let e = c.before.before.before.before in
     let d = e.before in
     let l = d.before.before.before.before.before in
-    let f : well_formed l.before.before.args.b.now ≡ true = sym d.before.well-formed-2.ensures ∙ not-false _ e.if3.false in
-    rw (read_done _ l.if1.false (right d) (formed_bytes _ l.if1.false f)) (cc)
+    let f : well_formed l.before.before.args.b.now ≡ true = sym d.before.well-formed-2.ensures ∙ not-false _ e.if-not-formed.false-raw in
+    rw (read_done _ l.if-b-ne512.false (right d) (formed_bytes _ l.if-b-ne512.false f)) (cc)
 
 pub read_spec : {M : Type 1} → statement M
 read_spec =

@@ -11,40 +11,40 @@ use Rattle.block.specs.Formed.{allowed_bounds}
 use Rattle.block.proofs.well_formed.Statement.{statement}
 use Rattle.block.proofs.well_formed.Tie as tie
 
-returns : tie.Need-returns
+returns : tie.Need-returns-then-not-allowed
 unfolding well_formed
 returns c =
     let d = c.before in
-    rw (← d.before.before.two_at.ensures, sym d.allowed.ensures ∙ not-true _ c.if1.true)
+    rw (← d.before.before.two_at-count.ensures, sym d.allowed.ensures ∙ not-true _ c.if-not-allowed.true-raw)
 
 -- the mode and the count are allowed
-within : (c : tie.Else1) → let t = c.before.before.before in
-    allowed (get_or t.before.before.args.b.now 8 0) t.two_at.result ≡ true
-within c = sym c.before.allowed.ensures ∙ not-false _ c.if1.false
+within : (c : tie.Else-not-allowed) → let t = c.before.before.before in
+    allowed (get_or t.before.before.args.b.now 8 0) t.two_at-count.result ≡ true
+within c = sym c.before.allowed.ensures ∙ not-false _ c.if-not-allowed.false-raw
 
-returns-2 : tie.Need-returns-2
+returns-2 : tie.Need-returns-then-b-ne0
 unfolding well_formed
 returns-2 c =
     let d = c.before.before in
     let b = d.before.before.before.before.before.args.b.now in
-    let nine : eqb (get_or b 9 0) 0 ≡ false = ne_eqb _ 0 c.if2.true in
-    rw (← d.before.before.before.two_at.ensures, within d, nine)
+    let nine : eqb (get_or b 9 0) 0 ≡ false = ne_eqb _ 0 c.if-b-ne0.true in
+    rw (← d.before.before.before.two_at-count.ensures, within d, nine)
 
 -- so the octets end before the check
-sub-all-zero : tie.Need-overflow-sub-all-zero
+sub-all-zero : tie.Need-slice_bounds-all_zero-count
 sub-all-zero c = omega (arith, (allowed_bounds _ _ (within c.before.before)).count_most)
 
-returns-3 : tie.Need-returns-3
+returns-3 : tie.Need-returns
 unfolding well_formed
 returns-3 c =
     let e = c.before.before in
     let d = e.before.before in
     let b = d.before.before.before.before.before.args.b.now in
-    let nine : eqb (get_or b 9 0) 0 ≡ true = eq-eqb _ 0 e.if2.false in
-    rw (← d.before.before.before.two_at.ensures, within d, nine) c.all-zero.ensures
+    let nine : eqb (get_or b 9 0) 0 ≡ true = eq-eqb _ 0 e.if-b-ne0.false in
+    rw (← d.before.before.before.two_at-count.ensures, within d, nine) c.all_zero.ensures
 
-pub well-formed-spec : {M : Type 1} → statement M
-well-formed-spec =
+pub well_formed_spec : {M : Type 1} → statement M
+well_formed_spec =
     tie.close
     (tie.spec
     (λ c κs. tt)

@@ -12,10 +12,10 @@ use Rattle.g722.specs.Records.{in_range, all_in_range}
 use Rattle.bounds.proofs.all_in_range.Statement.{statement}
 use Rattle.bounds.proofs.all_in_range.Tie as tie
 
-abbrev invariant-loop : tie.invariant-loop
+abbrev invariant-loop : tie.invariant-loop-i
 invariant-loop xs ok₀ i₀ i-end ok i = (i ≤ i-end) × (i-end ≡ length xs) × ((ok && all_in_range (drop i xs)) ≡ all_in_range xs)
 
-abbrev decreases-loop : tie.decreases-loop
+abbrev decreases-loop : tie.decreases-loop-i
 decreases-loop xs ok₀ i₀ i-end ok i = i-end - i
 
 -- one sample moves from the rest to what was found
@@ -28,33 +28,33 @@ end : (xs : List ℤ) (i : ℕ) (ok : Bool) → length xs ≤ i → ok ≡ (ok &
 unfolding all_in_range
 end xs i ok h = rw (drop_of_length-le xs h) (sym (and-true ok))
 
-loop-holds : tie.Need-loop-init invariant-loop decreases-loop
+loop-holds : tie.Need-loop-i-init invariant-loop decreases-loop
 loop-holds c = (omega arith, refl, refl)
 
-loop-again : tie.Need-loop-preserved invariant-loop decreases-loop
+loop-again : tie.Need-loop-i-preserved invariant-loop decreases-loop
 loop-again c =
     let l = c.before.before.before.before in
     let xs = l.before.args.xs.now in
-    let i = l.loop.i in
-    let ok = l.loop.ok in
+    let i = l.loop-i.i in
+    let ok = l.loop-i.ok in
     let h : i < length xs = omega arith in
-    let r : c.before.in-range.result ≡ in_range (get_or xs i (pos 0)) =
-    c.before.in-range.ensures ∙ ap in_range (back16 (get_or xs i (pos 0)) c.before.before.in-range-arg.given) in (
+    let r : c.before.in_range.result ≡ in_range (get_or xs i (pos 0)) =
+    c.before.in_range.ensures ∙ ap in_range (back16 (get_or xs i (pos 0)) c.before.before.in_range-arg-1.given) in (
       omega arith,
-      l.loop.invariant.1,
-      ap (λ (t : Bool). t && all_in_range (drop (i + 1) xs)) (c.both.ensures ∙ ap (λ (t : Bool). ok && t) r)
+      l.loop-i.invariant.1,
+      ap (λ (t : Bool). t && all_in_range (drop (i + 1) xs)) (c.both-ok.ensures ∙ ap (λ (t : Bool). ok && t) r)
           ∙ turn xs i ok h
-          ∙ l.loop.invariant.2,
+          ∙ l.loop-i.invariant.2,
     )
 
 returns : tie.Need-returns invariant-loop decreases-loop
 returns c =
     let xs = c.before.before.args.xs.now in
-    let h : length xs ≤ c.before.loop.i = omega arith in
-    end xs c.before.loop.i c.before.loop.ok h ∙ c.before.loop.invariant.2
+    let h : length xs ≤ c.before.loop-i.i = omega arith in
+    end xs c.before.loop-i.i c.before.loop-i.ok h ∙ c.before.loop-i.invariant.2
 
-pub all-in-range-spec : {M : Type 1} → statement M
-all-in-range-spec =
+pub all_in_range_spec : {M : Type 1} → statement M
+all_in_range_spec =
     tie.close
     (tie.spec
     invariant-loop

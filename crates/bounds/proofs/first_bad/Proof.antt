@@ -35,42 +35,42 @@ bad-end : (s : List ℤ) (i : ℕ) → length s ≤ i → first_bad (drop i s) �
 unfolding first_bad
 bad-end s i k = ap first_bad (drop_of_length-le s k)
 
-abbrev invariant-loop : tie.invariant-loop
+abbrev invariant-loop : tie.invariant-loop-i
 invariant-loop s i₀ i-end i = (i ≤ i-end) × (i-end ≡ length s) × (i + first_bad (drop i s) ≡ first_bad s)
 
-abbrev decreases-loop : tie.decreases-loop
+abbrev decreases-loop : tie.decreases-loop-i
 decreases-loop s i₀ i-end i = i-end - i
 
-loop-holds : tie.Need-loop-init invariant-loop decreases-loop
+loop-holds : tie.Need-loop-i-init invariant-loop decreases-loop
 loop-holds c = (zero-le, refl, omega arith)
 
 -- what the test says of the sample
-module _ (q : tie.After-in-range invariant-loop decreases-loop) where
-  abbrev loop : tie.At-loop invariant-loop decreases-loop
+module _ (q : tie.After-in_range invariant-loop decreases-loop) where
+  abbrev loop : tie.At-loop-i invariant-loop decreases-loop
   loop = q.before.before.before
 
-  told : in_range (get_or loop.before.args.xs.now loop.loop.i (pos 0)) ≡ q.in-range.result
-  told = ap in_range (sym (back16 _ q.before.in-range-arg.given)) ∙ sym q.in-range.ensures
+  told : in_range (get_or loop.before.args.xs.now loop.loop-i.i (pos 0)) ≡ q.in_range.result
+  told = ap in_range (sym (back16 _ q.before.in_range-arg-1.given)) ∙ sym q.in_range.ensures
 
-loop-again : tie.Need-loop-preserved invariant-loop decreases-loop
+loop-again : tie.Need-loop-i-preserved invariant-loop decreases-loop
 loop-again c =
     let lp = loop c.before in
-    let t = told c.before ∙ not-false _ c.if1.false in
-    (omega arith, lp.loop.inv.1, bad-on lp.before.args.xs.now lp.loop.i (omega arith) t ∙ lp.loop.inv.2)
+    let t = told c.before ∙ not-false _ c.if-not-in_range.false-raw in
+    (omega arith, lp.loop-i.invariant.1, bad-on lp.before.args.xs.now lp.loop-i.i (omega arith) t ∙ lp.loop-i.invariant.2)
 
-returns : tie.Need-returns invariant-loop decreases-loop
+returns : tie.Need-returns-then-not-in_range invariant-loop decreases-loop
 returns c =
     let lp = loop c.before in
-    let t = told c.before ∙ not-true _ c.if1.true in
-    bad-stop lp.before.args.xs.now lp.loop.i (omega arith) t ∙ lp.loop.inv.2
+    let t = told c.before ∙ not-true _ c.if-not-in_range.true-raw in
+    bad-stop lp.before.args.xs.now lp.loop-i.i (omega arith) t ∙ lp.loop-i.invariant.2
 
-returns-2 : tie.Need-returns-2 invariant-loop decreases-loop
+returns-2 : tie.Need-returns invariant-loop decreases-loop
 returns-2 c =
     let lp = c.before in
-    omega (arith, bad-end lp.before.args.xs.now lp.loop.i (omega arith))
+    omega (arith, bad-end lp.before.args.xs.now lp.loop-i.i (omega arith))
 
-pub first-bad-spec : {M : Type 1} → statement M
-first-bad-spec =
+pub first_bad_spec : {M : Type 1} → statement M
+first_bad_spec =
     tie.close
     (tie.spec
     invariant-loop

@@ -1,5 +1,5 @@
 -- `bounds::good_low` meets its contract, by those of its calls.
-use Rattle.laws.specs.Back.{back16, got16}
+use Rattle.laws.specs.Back.{back16}
 use Rattle.g722.specs.Records.{good_low, good_factors}
 use Rattle.bounds.proofs.good_low.Statement.{statement}
 use Rattle.bounds.proofs.good_low.Tie as tie
@@ -10,10 +10,10 @@ returns c =
     let told = c.before.before.before in
     let s = told.before.before.before.before.before.before.before.before in
     cc (
-      got16 told.before.scalel,
-      back16 s.args.s.factors.log told.struct-told3.given.0.1,
-      back16 s.args.s.factors.scale told.struct-told3.given.1.0.1,
+      back16 told.before.scalel.result told.before.scalel.type_inv,
+      back16 s.args.s.factors.log told.struct_told-3-1.given.0.1,
+      back16 s.args.s.factors.scale told.struct_told-3-1.given.1.0.1,
     )
 
-pub good-low-spec : {M : Type 1} → statement M
-good-low-spec = tie.close (tie.spec (λ c κs. tt) (λ c κs. tt) (λ c κs. tt) (λ c κs. tt) (λ c κs. tt) (λ c κs. tt) returns)
+pub good_low_spec : {M : Type 1} → statement M
+good_low_spec = tie.close (tie.spec (λ c κs. tt) (λ c κs. tt) (λ c κs. tt) (λ c κs. tt) (λ c κs. tt) (λ c κs. tt) returns)

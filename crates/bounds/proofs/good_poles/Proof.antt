@@ -2,7 +2,7 @@
 use mathlib.Core.Path.{◌≡◌}
 use mathlib.Core.Bool.{◌&&◌}
 use lib.IntN.{pos}
-use Rattle.laws.specs.Back.{back16, got16}
+use Rattle.laws.specs.Back.{back16}
 use Rattle.g722.specs.Arithmetic.{neg, sub, within}
 use Rattle.g722.specs.Within.{within_ends}
 use Rattle.laws.specs.Order.{by_test}
@@ -29,11 +29,11 @@ returns c =
     let s = c.before.before.before.before.before.before.before in
     cc (
       exact s.args.s,
-      got16 c.before.before.before.before.sub,
-      got16 c.before.before.sub2,
-      back16 s.args.s.a1 c.before.before.before.before.before.struct-told2.given.0.1,
-      back16 s.args.s.a2 c.before.before.before.before.before.struct-told2.given.1.0.1,
+      back16 c.before.before.before.before.sub-reach.result c.before.before.before.before.sub-reach.type_inv,
+      back16 c.before.before.sub.result c.before.before.sub.type_inv,
+      back16 s.args.s.a1 c.before.before.before.before.before.struct_told-2-1.given.0.1,
+      back16 s.args.s.a2 c.before.before.before.before.before.struct_told-2-1.given.1.0.1,
     )
 
-pub good-poles-spec : {M : Type 1} → statement M
-good-poles-spec = tie.close (tie.spec (λ c κs. tt) (λ c κs. tt) (λ c κs. tt) (λ c κs. tt) (λ c κs. tt) returns)
+pub good_poles_spec : {M : Type 1} → statement M
+good_poles_spec = tie.close (tie.spec (λ c κs. tt) (λ c κs. tt) (λ c κs. tt) (λ c κs. tt) (λ c κs. tt) returns)

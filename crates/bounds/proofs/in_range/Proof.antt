@@ -8,5 +8,5 @@ returns : tie.Need-returns
 unfolding in_range
 returns c = cc (to_z-of_z c.before.ranges.x)
 
-pub in-range-spec : {M : Type 1} → statement M
-in-range-spec = tie.close (tie.spec (λ c κs. tt) returns)
+pub in_range_spec : {M : Type 1} → statement M
+in_range_spec = tie.close (tie.spec (λ c κs. tt) returns)

@@ -8,5 +8,5 @@ returns : tie.Need-returns
 unfolding reset_band
 returns c = simp (to_z-of_z c.ranges.scale)
 
-pub reset-band-spec : {M : Type 1} → statement M
-reset-band-spec = tie.close (tie.spec returns)
+pub reset_band_spec : {M : Type 1} → statement M
+reset_band_spec = tie.close (tie.spec returns)

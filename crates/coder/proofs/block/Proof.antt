@@ -6,7 +6,7 @@ use lib.Seq.{length-take-le}
 use Rattle.coder.proofs.block.Statement.{statement}
 use Rattle.coder.proofs.block.Tie as tie
 
-in-turn-requires : tie.Need-in-turn-requires
+in-turn-requires : tie.Need-in_turn-requires
 in-turn-requires c κs =
     let p = c.before.before.before.before.before.requires in
     (p.0, (p.1.0, (length-take-le _ _ p.0, (length-take-le _ _ p.0, (length-take-le _ _ p.0, p.1.1)))))

@@ -14,45 +14,45 @@ use Rattle.coder.proofs.Laws.{call_misfit, call_broken, call_bad, call_done}
 use Rattle.coder.proofs.code.Statement.{statement}
 use Rattle.coder.proofs.code.Tie as tie
 
-returns : tie.Need-returns
+returns : tie.Need-returns-then-unfit
 unfolding not_coded
 returns c =
     let t = c.before in
-    does (call_misfit _ _ _ (sym t.before.before.misfit.ensures ∙ t.if1.true)) c.refused.ensures refl
+    does (call_misfit _ _ _ (sym t.before.before.misfit-unfit.ensures ∙ t.if-unfit.true)) c.refused.ensures refl
 
 -- past the first test
-fits : (e : tie.Else1)
+fits : (e : tie.Else-unfit)
     → let args = e.before.before.before.before.args in misfit (length args.samples.now) (length args.octets.now) ≡ false
-fits e = sym e.before.before.misfit.ensures ∙ e.if1.false
+fits e = sym e.before.before.misfit-unfit.ensures ∙ e.if-unfit.false
 
-returns-2 : tie.Need-returns-2
+returns-2 : tie.Need-returns-then-not-good
 unfolding not_coded
 returns-2 c =
     let t = c.before in
-    does (call_broken _ _ _ (fits t.before) (sym t.before.before.good-coder.ensures ∙ not-true _ t.if2.true))
-    c.refused2.ensures refl
+    does (call_broken _ _ _ (fits t.before) (sym t.before.before.good_coder-good.ensures ∙ not-true _ t.if-not-good.true-raw))
+    c.refused-then-not-good.ensures refl
 
 -- past the second
-from-good : (e : tie.Else2) → good_coder e.before.before.before.before.before.args.c ≡ true
-from-good e = sym e.before.before.good-coder.ensures ∙ not-false _ e.if2.false
+from-good : (e : tie.Else-not-good) → good_coder e.before.before.before.before.before.args.c ≡ true
+from-good e = sym e.before.before.good_coder-good.ensures ∙ not-false _ e.if-not-good.false-raw
 
-returns-3 : tie.Need-returns-3
+returns-3 : tie.Need-returns-then-not-all_in_range
 unfolding not_coded
 returns-3 c =
     let b = c.before in
     let t = b.before in
     let g = t.before.before in
-    let bad = some_bad _ (sym t.before.all-in-range.ensures ∙ not-true _ t.if3.true) in
+    let bad = some_bad _ (sym t.before.all_in_range.ensures ∙ not-true _ t.if-not-all_in_range.true-raw) in
     let args = g.before.before.before.before.before.args in
     does (call_bad _ _ _ (fits g.before) (from-good g) bad)
-    (c.refused3.ensures ∙ ap (λ (n : ℕ). record { number = 4; index = n; limited = 0; next = args.c }) b.first-bad.ensures) refl
+    (c.refused-then-not-all_in_range.ensures ∙ ap (λ (n : ℕ). record { number = 4; index = n; limited = 0; next = args.c }) b.first_bad.ensures) refl
 
-returns-4 : tie.Need-returns-4
+returns-4 : tie.Need-returns
 returns-4 c =
     let r = c.before.before in
     let e = r.before.before in
     let g = e.before.before in
-    let clean = none_bad _ (sym e.before.all-in-range.ensures ∙ not-false _ e.if3.false) in
+    let clean = none_bad _ (sym e.before.all_in_range.ensures ∙ not-false _ e.if-not-all_in_range.false-raw) in
     does (call_done _ _ _ (fits g.before) (from-good g) clean)
     r.run.ensures.answer r.run.ensures.left
 
@@ -61,11 +61,11 @@ run-requires c κs =
     let e = c.before in
     let g = e.before.before in
     let fit = fits g.before in
-    let clean = sym e.before.all-in-range.ensures ∙ not-false _ e.if3.false in
+    let clean = sym e.before.all_in_range.ensures ∙ not-false _ e.if-not-all_in_range.false-raw in
     (few _ _ fit, (twice _ _ fit, (from-good g, clean)))
 
-pub code-spec : {M : Type 1} → statement M
-code-spec =
+pub code_spec : {M : Type 1} → statement M
+code_spec =
     tie.close
     (tie.spec
     (λ c κs. tt)

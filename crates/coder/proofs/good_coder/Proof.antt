@@ -10,7 +10,7 @@ returns c =
     let past = c.before in
     let b = past.before.before in
     let h = b.before in
-    rw (c.both2.ensures, past.all-in-range.ensures, b.both.ensures, h.good-high.ensures, h.before.good-low.ensures)
+    rw (c.both-2.ensures, past.all_in_range.ensures, b.both.ensures, h.good_high.ensures, h.before.good_low.ensures)
 
-pub good-coder-spec : {M : Type 1} → statement M
-good-coder-spec = tie.close (tie.spec (λ c κs. tt) (λ c κs. tt) (λ c κs. tt) (λ c. search rules) (λ c κs. tt) (λ c κs. tt) returns)
+pub good_coder_spec : {M : Type 1} → statement M
+good_coder_spec = tie.close (tie.spec (λ c κs. tt) (λ c κs. tt) (λ c κs. tt) (λ c. search rules) (λ c κs. tt) (λ c κs. tt) returns)

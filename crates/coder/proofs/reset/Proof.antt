@@ -7,5 +7,5 @@ returns : tie.Need-returns
 unfolding reset_coder
 returns c = cc
 
-pub reset-spec : {M : Type 1} → statement M
-reset-spec = tie.close (tie.spec (λ c κs. tt) (λ c κs. tt) returns)
+pub reset_spec : {M : Type 1} → statement M
+reset_spec = tie.close (tie.spec (λ c κs. tt) (λ c κs. tt) returns)

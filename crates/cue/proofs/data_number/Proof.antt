@@ -27,33 +27,33 @@ module _ (mode octets bytes : ℕ) (h : mode ≤ 3) where
     unfolding data_number unfilled
     alike t u = simp (le-ltb 3 mode h, le-ltb mode 2 l, le-ltb 8000 octets t, eq-eqb _ _ u)
 
-returns : tie.Need-returns
+returns : tie.Need-returns-then-mode-gt3
 unfolding data_number
 returns c = simp (lt-ltb 3 c.before.args.mode (omega arith))
 
-returns-2 : tie.Need-returns-2
+returns-2 : tie.Need-returns-then-mode-lt2
 unfolding data_number
 returns-2 c = let m = c.before.before.args.mode in simp (le-ltb 3 m (omega arith), lt-ltb m 2 (omega arith))
 
-returns-3 : tie.Need-returns-3
+returns-3 : tie.Need-returns-then-octets-gt8000
 returns-3 c = too_long _ _ _ (omega arith) (omega arith) (omega arith)
 
-returns-4 : tie.Need-returns-4
+returns-4 : tie.Need-returns-then-octets-bytes
 returns-4 c =
     let a = c.before.before.before.before.args in
     unlike _ _ _ (omega arith) (omega arith) (omega arith) (omega (arith, few a.mode a.octets a.bytes (omega arith)))
 
-mul-if5-2 : tie.Need-overflow-mul-if5-2
+mul-if5-2 : tie.Need-overflow_mul-mode
 mul-if5-2 c = let a = c.before.before.before.before.args in omega (arith, few a.mode a.octets a.bytes (omega arith))
 
-returns-5 : tie.Need-returns-5
-returns-5 c = unlike _ _ _ (omega arith) (omega arith) (omega arith) c.if5.true
+returns-5 : tie.Need-returns-then-bytes-mode
+returns-5 c = unlike _ _ _ (omega arith) (omega arith) (omega arith) c.if-bytes-mode.true
 
-returns-6 : tie.Need-returns-6
-returns-6 c = alike _ _ _ (omega arith) (omega arith) (omega arith) c.if5.false
+returns-6 : tie.Need-returns
+returns-6 c = alike _ _ _ (omega arith) (omega arith) (omega arith) c.if-bytes-mode.false
 
-pub data-number-spec : {M : Type 1} → statement M
-data-number-spec =
+pub data_number_spec : {M : Type 1} → statement M
+data_number_spec =
     tie.close
     (tie.spec
     returns

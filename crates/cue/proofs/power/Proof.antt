@@ -17,5 +17,5 @@ returns c =
     let e = eqb→eq (get_or table n 0) (2 ^ n) (below_at 8 (λ m. eqb (get_or table m 0) (2 ^ m)) tt n (omega arith)) in
     (e, omega (arith, one-le-pow n 2 (omega arith)))
 
-pub power-spec : {M : Type 1} → statement M
-power-spec = tie.close (tie.spec (λ c. search rules) returns)
+pub power_spec : {M : Type 1} → statement M
+power_spec = tie.close (tie.spec (λ c. search rules) returns)

@@ -9,25 +9,25 @@ use Rattle.cue.proofs.Laws.{done, refused}
 use Rattle.cue.proofs.take.Statement.{statement}
 use Rattle.cue.proofs.take.Tie as tie
 
-fills : (c : tie.Then1)
+fills : (c : tie.Then-number-eq0)
     → let a = c.before.before.before.before.args in Fills (given_up a.mode) (length a.octets.now) (length a.bytes.now)
-fills c = passed _ _ _ (sym c.before.data-number.ensures ∙ c.if1.true)
+fills c = passed _ _ _ (sym c.before.data_number-number.ensures ∙ c.if-number-eq0.true)
 
-sub-gather : tie.Need-overflow-sub-gather
+sub-gather : tie.Need-overflow_sub-mode
 sub-gather c = omega (arith, (fills c.before).some)
 
 gather-requires : tie.Need-gather-requires
 gather-requires c κs = fills c.before
 
-returns : tie.Need-returns
+returns : tie.Need-returns-then-number-eq0
 unfolding take_call
 returns c =
     let t = c.before.before.before.before in
-    done t.before.data-number.ensures _ _ t.if1.true c.before.before.gather.ensures
+    done t.before.data_number-number.ensures _ _ t.if-number-eq0.true c.before.before.gather.ensures
 
-returns-2 : tie.Need-returns-2
+returns-2 : tie.Need-returns-else-number-eq0
 unfolding take_call
-returns-2 c = refused c.before.data-number.ensures _ _ c.if1.false
+returns-2 c = refused c.before.data_number-number.ensures _ _ c.if-number-eq0.false
 
 pub take_spec : {M : Type 1} → statement M
 take_spec =

@@ -3,10 +3,10 @@ use native.Mathlib.Omega.{arith}
 use Rattle.cue_put.proofs.run.Statement.{statement}
 use Rattle.cue_put.proofs.run.Tie as tie
 
-abbrev invariant-loop : tie.invariant-loop
+abbrev invariant-loop : tie.invariant-loop-turns
 invariant-loop mode file turns₀ turns = Unit {0}
 
-abbrev decreases-loop : tie.decreases-loop
+abbrev decreases-loop : tie.decreases-loop-turns
 decreases-loop mode file turns₀ turns = turns
 
 pub run_spec : {M : Type 1} → statement M

@@ -6,7 +6,7 @@ use borrow.Author.Rules.{rules}
 use Rattle.cue_put.proofs.turn.Statement.{statement}
 use Rattle.cue_put.proofs.turn.Tie as tie
 
-slice-aggregate-fill : tie.Need-slice-aggregate-fill
+slice-aggregate-fill : tie.Need-slice_bounds-fill-end
 slice-aggregate-fill c = sym (length-take-le _ _ (omega arith))
 
 pub turn_spec : {M : Type 1} → statement M

@@ -6,7 +6,7 @@ use borrow.Author.Rules.{rules}
 use Rattle.cue_take.proofs.turn.Statement.{statement}
 use Rattle.cue_take.proofs.turn.Tie as tie
 
-slice-aggregate-send-2 : tie.Need-slice-aggregate-send-2
+slice-aggregate-send-2 : tie.Need-slice_bounds-send-end-2
 slice-aggregate-send-2 c = sym (length-take-le _ _ (omega arith))
 
 pub turn_spec : {M : Type 1} → statement M

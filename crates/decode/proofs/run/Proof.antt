@@ -12,17 +12,17 @@ use Rattle.decode.proofs.run.Tie as tie
 taken : (k : ℕ) → ltb 0 k ≡ true → k - 1 < k
 taken k e = let h = ltb-true 0 k e in omega arith
 
-abbrev invariant-loop : tie.invariant-loop
+abbrev invariant-loop : tie.invariant-loop-more
 invariant-loop told d₀ turns₀ more₀ d turns more = Unit {0}
 
-abbrev decreases-loop : tie.decreases-loop
+abbrev decreases-loop : tie.decreases-loop-more
 decreases-loop told d₀ turns₀ more₀ d turns more = turns
 
-sub-turns : tie.Need-overflow-sub-turns invariant-loop decreases-loop
-sub-turns c = ltb-true 0 _ c.before.before.if1.true
+sub-turns : tie.Need-overflow_sub-turns invariant-loop decreases-loop
+sub-turns c = ltb-true 0 _ c.before.before.if-turns-gt0.true-raw
 
-loop-less : tie.Need-loop-smaller invariant-loop decreases-loop
-loop-less c = taken _ c.before.before.if1.true
+loop-less : tie.Need-loop-more-smaller invariant-loop decreases-loop
+loop-less c = taken _ c.before.before.if-turns-gt0.true-raw
 
 pub run_spec : {M : Type 1} → statement M
 run_spec =

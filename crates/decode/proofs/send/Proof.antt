@@ -6,11 +6,11 @@ use borrow.Author.Rules.{rules}
 use Rattle.decode.proofs.send.Statement.{statement}
 use Rattle.decode.proofs.send.Tie as tie
 
-slice-aggregate-send-all : tie.Need-slice-aggregate-send-all
+slice-aggregate-send-all : tie.Need-slice_bounds-send_all-end
 slice-aggregate-send-all c = sym (length-take-le _ _ (omega arith))
 
-pub send-spec : {M : Type 1} → statement M
-send-spec =
+pub send_spec : {M : Type 1} → statement M
+send_spec =
     tie.close
     (tie.spec
     (λ c. search rules)

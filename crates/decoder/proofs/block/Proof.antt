@@ -6,7 +6,7 @@ use lib.Seq.{length-take-le}
 use Rattle.decoder.proofs.block.Statement.{statement}
 use Rattle.decoder.proofs.block.Tie as tie
 
-in-turn-requires : tie.Need-in-turn-requires
+in-turn-requires : tie.Need-in_turn-requires
 in-turn-requires c κs =
     let s = c.before.before.before.before in
     (omega (arith, s.requires.0), (length-take-le _ _ s.requires.0, (length-take-le _ _ s.requires.0, s.requires.1)))

@@ -15,41 +15,41 @@ use Rattle.decoder.proofs.Laws.{call_mode, call_misfit, call_broken, call_done}
 use Rattle.decoder.proofs.decode.Statement.{statement}
 use Rattle.decoder.proofs.decode.Tie as tie
 
-returns : tie.Need-returns
+returns : tie.Need-returns-then-told-gt3
 unfolding not_decoded
 returns c = does (call_mode _ _ _ _ (omega arith)) c.refused.ensures refl
 
-returns-2 : tie.Need-returns-2
+returns-2 : tie.Need-returns-then-unfit
 unfolding not_decoded
 returns-2 c =
     let t = c.before in
-    does (call_misfit _ _ _ _ (omega arith) (sym t.before.before.before.misfit.ensures ∙ t.if2.true)) c.refused2.ensures refl
+    does (call_misfit _ _ _ _ (omega arith) (sym t.before.before.before.misfit-unfit.ensures ∙ t.if-unfit.true)) c.refused-then-unfit.ensures refl
 
 -- past the second test
-fits : (e : tie.Else2)
+fits : (e : tie.Else-unfit)
     → let args = e.before.before.before.before.before.args in
     misfit (length args.samples.now) (length args.octets.now) ≡ false
-fits e = sym e.before.before.before.misfit.ensures ∙ e.if2.false
+fits e = sym e.before.before.before.misfit-unfit.ensures ∙ e.if-unfit.false
 
-returns-3 : tie.Need-returns-3
+returns-3 : tie.Need-returns-then-not-good
 unfolding not_decoded
 returns-3 c =
     let t = c.before in
-    let broken = sym t.before.before.before.good-decoder.ensures ∙ not-true _ t.if3.true in
+    let broken = sym t.before.before.before.good_decoder-good.ensures ∙ not-true _ t.if-not-good.true-raw in
     does (call_broken _ _ _ _ (omega arith) (fits t.before) broken)
-    c.refused3.ensures refl
+    c.refused-then-not-good.ensures refl
 
 -- past the third
-good : (e : tie.Else3) → good_decoder e.before.before.before.before.before.before.args.d ≡ true
-good e = sym e.before.before.before.good-decoder.ensures ∙ not-false _ e.if3.false
+good : (e : tie.Else-not-good) → good_decoder e.before.before.before.before.before.before.args.d ≡ true
+good e = sym e.before.before.before.good_decoder-good.ensures ∙ not-false _ e.if-not-good.false-raw
 
-returns-4 : tie.Need-returns-4
+returns-4 : tie.Need-returns
 returns-4 c =
     let r = c.before in
     let f = r.before.before in
     let e = f.before in
     let args = e.before.before.before.before.before.before.args in
-    let told = f.in-force.ensures in
+    let told = f.in_force.ensures in
     does (call_done _ _ _ _ (omega arith) (fits e.before) (good e))
     (r.run.ensures.answer ∙ ap (λ (m : ℕ). (decoded m args.d args.octets.now).answer) told)
     (r.run.ensures.left ∙ ap (λ (m : ℕ). (decoded m args.d args.octets.now).left) told)
@@ -60,8 +60,8 @@ run-requires c κs =
     let f = fits e.before in
     (few _ _ f, (twice _ _ f, good e))
 
-pub decode-spec : {M : Type 1} → statement M
-decode-spec =
+pub decode_spec : {M : Type 1} → statement M
+decode_spec =
     tie.close
     (tie.spec
     (λ c κs. tt)

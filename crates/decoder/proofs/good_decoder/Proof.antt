@@ -4,7 +4,7 @@ use Rattle.g722.specs.Records.{good_decoder}
 use Rattle.decoder.proofs.good_decoder.Statement.{statement}
 use Rattle.decoder.proofs.good_decoder.Tie as tie
 
-slice-aggregate-all-in-range-2 : tie.Need-slice-aggregate-all-in-range-2
+slice-aggregate-all-in-range-2 : tie.Need-slice_bounds-all_in_range-end-2
 slice-aggregate-all-in-range-2 c =
     let g = c.before.before.before.before.before.before.before.before.before.before.before.before.well-formed.0.1.1.1.1 in
     search (rules, g)
@@ -18,17 +18,17 @@ returns c =
     let b = rl.before.before in
     let h = b.before in
     rw (
-      c.both3.ensures,
-      rh.all-in-range2.ensures,
-      bands.both2.ensures,
-      rl.all-in-range.ensures,
-      b.both.ensures,
-      h.good-high.ensures,
-      h.before.good-low.ensures,
+      c.both-2.ensures,
+      rh.all_in_range-2.ensures,
+      bands.both.ensures,
+      rl.all_in_range.ensures,
+      b.both-bands.ensures,
+      h.good_high.ensures,
+      h.before.good_low.ensures,
     )
 
-pub good-decoder-spec : {M : Type 1} → statement M
-good-decoder-spec =
+pub good_decoder_spec : {M : Type 1} → statement M
+good_decoder_spec =
     tie.close
     (tie.spec
     (λ c κs. tt)

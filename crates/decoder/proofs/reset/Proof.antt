@@ -5,7 +5,7 @@ use Rattle.decoder.proofs.reset.Tie as tie
 
 returns : tie.Need-returns
 unfolding reset_decoder
-returns c = rw (c.reset-band2.ensures, c.before.reset-band.ensures)
+returns c = rw (c.reset_band-2.ensures, c.before.reset_band.ensures)
 
-pub reset-spec : {M : Type 1} → statement M
-reset-spec = tie.close (tie.spec (λ c κs. tt) (λ c κs. tt) returns)
+pub reset_spec : {M : Type 1} → statement M
+reset_spec = tie.close (tie.spec (λ c κs. tt) (λ c κs. tt) returns)

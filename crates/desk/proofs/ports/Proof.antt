@@ -15,14 +15,14 @@ not-refused : (n : ℕ) → (reset_call n).number ≡ 0 → unseated n ≡ false
 unfolding reset_call
 not-refused n e = by_test (unseated n) (λ t. absurd (omega (arith, sym (ap (λ b. cond b 9 0) t) ∙ e))) (λ t. t)
 
-returns-3 : tie.Need-returns-3
+returns-3 : tie.Need-returns
 returns-3 c =
     let r = c.before.before in
-    let n = r.before.before.told.result in
-    (seated n (not-refused n (sym (ap (λ a. a.number) r.reset.ensures) ∙ c.if2.false))).1
+    let n = r.before.before.told-n.result in
+    (seated n (not-refused n (sym (ap (λ a. a.number) r.reset-answer.ensures) ∙ c.if-answer-ne0.false))).1
 
-pub ports-spec : {M : Type 1} → statement M
-ports-spec =
+pub ports_spec : {M : Type 1} → statement M
+ports_spec =
     tie.close
     (tie.spec
     (λ c κs. tt)

@@ -6,10 +6,10 @@ use borrow.Author.Rules.{rules}
 use Rattle.desk.proofs.run.Statement.{statement}
 use Rattle.desk.proofs.run.Tie as tie
 
-slice-aggregate-run-form : tie.Need-slice-aggregate-run-form
+slice-aggregate-run-form : tie.Need-slice_bounds-run_form-end
 slice-aggregate-run-form c = sym (length-take-le _ _ (omega arith))
 
-run-form-requires : tie.Need-run-form-requires
+run-form-requires : tie.Need-run_form-requires
 run-form-requires c κs =
     let e = slice-aggregate-run-form c in
     (omega arith, omega arith)

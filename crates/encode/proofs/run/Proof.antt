@@ -19,20 +19,20 @@ taken k e = let h = ltb-true 0 k e in omega arith
 onward : (k start next : ℕ) → ltb 0 k ≡ true → next ≤ start + 16000 → Within start k → Within next (k - 1)
 onward k start next e g h = let t = ltb-true 0 k e in omega arith
 
-abbrev invariant-loop : tie.invariant-loop
+abbrev invariant-loop : tie.invariant-loop-more
 invariant-loop c₀ start₀ turns₀ more₀ c start turns more = Within start turns
 
-abbrev decreases-loop : tie.decreases-loop
+abbrev decreases-loop : tie.decreases-loop-more
 decreases-loop c₀ start₀ turns₀ more₀ c start turns more = turns
 
-sub-turns : tie.Need-overflow-sub-turns invariant-loop decreases-loop
-sub-turns c = ltb-true 0 _ c.before.before.if1.true
+sub-turns : tie.Need-overflow_sub-turns invariant-loop decreases-loop
+sub-turns c = ltb-true 0 _ c.before.before.if-turns-gt0.true-raw
 
-loop-less : tie.Need-loop-smaller invariant-loop decreases-loop
-loop-less c = taken _ c.before.before.if1.true
+loop-less : tie.Need-loop-more-smaller invariant-loop decreases-loop
+loop-less c = taken _ c.before.before.if-turns-gt0.true-raw
 
-loop-again : tie.Need-loop-preserved invariant-loop decreases-loop
-loop-again c = onward _ _ _ c.before.before.if1.true c.before.turn.ensures c.before.before.before.before.loop.invariant
+loop-again : tie.Need-loop-more-preserved invariant-loop decreases-loop
+loop-again c = onward _ _ _ c.before.before.if-turns-gt0.true-raw c.before.turn-t.ensures c.before.before.before.before.loop-more.invariant
 
 pub run_spec : {M : Type 1} → statement M
 run_spec =

@@ -4,14 +4,14 @@ use borrow.Author.Rules.{rules}
 use Rattle.encode.proofs.send_all.Statement.{statement}
 use Rattle.encode.proofs.send_all.Tie as tie
 
-returns : tie.Need-returns
-returns c = rw c.before.before.before.before.encode-chunk.ensures.answer (index_within _ _ _)
+returns : tie.Need-returns-then-answer-ne0
+returns c = rw c.before.before.before.before.encode_chunk-answer.ensures.answer (index_within _ _ _)
 
-returns-2 : tie.Need-returns-2
-returns-2 c = rw c.before.before.before.before.before.before.encode-chunk.ensures.answer (index_within _ _ _)
+returns-2 : tie.Need-returns
+returns-2 c = rw c.before.before.before.before.before.before.encode_chunk-answer.ensures.answer (index_within _ _ _)
 
-pub send-all-spec : {M : Type 1} → statement M
-send-all-spec =
+pub send_all_spec : {M : Type 1} → statement M
+send_all_spec =
     tie.close
     (tie.spec
     (λ c κs. search rules)

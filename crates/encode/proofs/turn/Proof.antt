@@ -13,10 +13,10 @@ use Rattle.encode.proofs.turn.Tie as tie
 room : (a r : ℕ) (xs ys zs : List ℕ) → a ≤ length xs → r ≤ length ys → a + r ≤ length (take a xs ++ (ys ++ zs))
 room a r xs ys zs h g = omega (arith, length-take-le a xs h, length-append (take a xs) (ys ++ zs), length-append ys zs)
 
-inside : tie.Need-array-share-prefix-bytes-2
-inside c = room _ _ _ c.before.read-full.new.1.0 _ (omega arith) c.before.read-full.ensures.0
+inside : tie.Need-slice_bounds-bytes-end-3
+inside c = room _ _ _ c.before.read_full-rest.new.1.0 _ (omega arith) c.before.read_full-rest.ensures.0
 
-size : tie.Need-slice-aggregate-send-2
+size : tie.Need-slice_bounds-send-end-2
 size c = sym (length-take-le _ _ (inside c.before))
 
 send-requires-2 : tie.Need-send-requires-2

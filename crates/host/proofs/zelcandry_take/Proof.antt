@@ -11,13 +11,13 @@ use Rattle.host.proofs.zelcandry_take.Tie as tie
 
 packed-requires : tie.Need-packed-requires
 unfolding take_call data_call
-packed-requires c κs = omega (arith, ap (λ (m : Moved). m.index) c.before.before.take.ensures.answer)
+packed-requires c κs = omega (arith, ap (λ (m : Moved). m.index) c.before.before.take-a.ensures.answer)
 
 returns : tie.Need-returns
 unfolding take_bytes after_data
 returns c =
-    let did = c.before.before.before.take.ensures in
+    let did = c.before.before.before.take-a.ensures in
     record { answer = c.packed.ensures ∙ ap (λ (m : Moved). packed m.number m.index 0) did.answer; left = did.left }
 
-pub zelcandry-take-spec : {M : Type 1} → statement M
-zelcandry-take-spec = tie.close (tie.spec (λ c κs. search rules) packed-requires (λ c. search rules) returns)
+pub zelcandry_take_spec : {M : Type 1} → statement M
+zelcandry_take_spec = tie.close (tie.spec (λ c κs. search rules) packed-requires (λ c. search rules) returns)

@@ -9,7 +9,7 @@ use lib.ListN.{length, get_or}
 use mir.Syntax.{w16}
 use mir.Val.{to_z, of_z}
 use mir.Facts.{to_z-of_z}
-use Rattle.laws.specs.Back.{got16, back16}
+use Rattle.laws.specs.Back.{back16}
 use Rattle.laws.specs.Filled.{Filled, fill, filled}
 use Rattle.laws.specs.Zipped.{zip_at, zip_length}
 use Rattle.g722.specs.Band.{upzero}
@@ -17,57 +17,57 @@ use Rattle.idle.specs.Plain.{signed_gain_small, upzero_signed}
 use Rattle.lanes.proofs.adapt.Statement.{statement}
 use Rattle.lanes.proofs.adapt.Tie as tie
 
-abbrev invariant-loop : tie.invariant-loop
+abbrev invariant-loop : tie.invariant-loop-k
 invariant-loop d b past g next₀ k₀ next k = (k ≤ 8) × Filled (zip_with (upzero (to_z w16 d)) b past) 8 next k
 
-abbrev decreases-loop : tie.decreases-loop
+abbrev decreases-loop : tie.decreases-loop-k
 decreases-loop d b past g next₀ k₀ next k = 8 - k
 
 moved-requires : tie.Need-moved-requires invariant-loop decreases-loop
 moved-requires c κs =
     let g = c.before.before.before.before in
-    rw (got16 g.signed-gain ∙ g.signed-gain.ensures) (signed_gain_small _)
+    rw (back16 g.signed_gain-g.result g.signed_gain-g.type_inv ∙ g.signed_gain-g.ensures) (signed_gain_small _)
 
-loop-again : tie.Need-loop-preserved invariant-loop decreases-loop
+loop-again : tie.Need-loop-k-preserved invariant-loop decreases-loop
 loop-again c =
     let c₁ = c.before in
     let c₂ = c₁.before in
     let l = c₂.before.before in
     let q = l.before in
     let s = q.before in
-    let b = s.args.t1 in
-    let past = s.args.t2 in
+    let b = s.args.b in
+    let past = s.args.past in
     let d = to_z w16 (of_z w16 s.args.d) in
-    let k = l.loop.k in
+    let k = l.loop-k.k in
     let b8 : length b ≡ 8 = search rules in
     let p8 : length past ≡ 8 = search rules in
     let e : to_z w16 (of_z w16 c.moved.result) ≡ get_or (zip_with (upzero d) b past) k (pos 0) =
     rw (
-      got16 c.moved ∙ c.moved.ensures,
-      got16 q.signed-gain ∙ q.signed-gain.ensures,
+      back16 c.moved.result c.moved.type_inv ∙ c.moved.ensures,
+      back16 q.signed_gain-g.result q.signed_gain-g.type_inv ∙ q.signed_gain-g.ensures,
       zip_at (upzero d) b past k (omega arith) (omega arith),
-      back16 (get_or b k (pos 0)) c₂.moved-arg.given,
-      back16 (get_or past k (pos 0)) c₁.moved-arg2.given,
+      back16 (get_or b k (pos 0)) c₂.moved-arg-1.given,
+      back16 (get_or past k (pos 0)) c₁.moved-arg-in-loop-k-1.given,
     )
     (upzero_signed d (get_or b k (pos 0)) (get_or past k (pos 0)))
     in
     let long = zip_length (upzero d) b past (omega arith) in
-    (omega arith, fill (zip_with (upzero d) b past) 8 l.loop.invariant.1 (pos 0) (omega arith) (omega arith) e)
+    (omega arith, fill (zip_with (upzero d) b past) 8 l.loop-k.invariant.1 (pos 0) (omega arith) (omega arith) e)
 
 returns : tie.Need-returns invariant-loop decreases-loop
 returns c =
     let l = c.before in
     let s = l.before.before in
-    let b = s.args.t1 in
-    let past = s.args.t2 in
+    let b = s.args.b in
+    let past = s.args.past in
     let b8 : length b ≡ 8 = search rules in
     let p8 : length past ≡ 8 = search rules in
     let f = upzero (to_z w16 (of_z w16 s.args.d)) in
     let long = zip_length f b past (omega arith) in
-    rw (to_z-of_z s.ranges.d, append-nil) at (filled (zip_with f b past) 8 l.loop.invariant.1 [] (omega arith) (omega arith))
+    rw (to_z-of_z s.ranges.d, append-nil) at (filled (zip_with f b past) 8 l.loop-k.invariant.1 [] (omega arith) (omega arith))
 
-pub adapt-spec : {M : Type 1} → statement M
-adapt-spec =
+pub adapt_spec : {M : Type 1} → statement M
+adapt_spec =
     tie.close
     (tie.spec
     invariant-loop

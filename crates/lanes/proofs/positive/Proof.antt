@@ -5,11 +5,11 @@ use Rattle.idle.specs.Plain.{up_below, up_above}
 use Rattle.lanes.proofs.positive.Statement.{statement}
 use Rattle.lanes.proofs.positive.Tie as tie
 
-returns : tie.Need-returns
-returns c = up_below c.before.args.x (rw (to_z-of_z c.before.ranges.x) at c.if1.true)
+returns : tie.Need-returns-then-x-lt0
+returns c = up_below c.before.args.x (rw (to_z-of_z c.before.ranges.x) at c.if-x-lt0.true)
 
-returns-2 : tie.Need-returns-2
-returns-2 c = to_z-of_z c.before.ranges.x ∙ up_above c.before.args.x (rw (to_z-of_z c.before.ranges.x) at c.if1.false)
+returns-2 : tie.Need-returns
+returns-2 c = to_z-of_z c.before.ranges.x ∙ up_above c.before.args.x (rw (to_z-of_z c.before.ranges.x) at c.if-x-lt0.false)
 
-pub positive-spec : {M : Type 1} → statement M
-positive-spec = tie.close (tie.spec returns returns-2)
+pub positive_spec : {M : Type 1} → statement M
+positive_spec = tie.close (tie.spec returns returns-2)

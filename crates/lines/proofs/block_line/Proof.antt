@@ -22,13 +22,13 @@ returns c =
     let p = f1.before in
     let a = p.before.before.args in
     let fits = p.before.before.ranges in
-    let samples = both (both (both p.put.ensures f1.field.ensures) s1.signed-field.ensures) s2.signed-field2.ensures in
+    let samples = both (both (both p.put.ensures f1.field-end.ensures) s1.signed_field.ensures) s2.signed_field-samples.ensures in
     finished p.before.empty.ensures.0
-    (both (both (both (both samples f2.field2.ensures) f3.field3.ensures) f4.field4.ensures) c.decimal.ensures)
+    (both (both (both (both samples f2.field.ensures) f3.field-counted.ensures) f4.field-2.ensures) c.decimal.ensures)
     ∙ λ i. line_of (block_line a.take a.block a.mode a.count (to_z-of_z fits.first i) (to_z-of_z fits.last i) a.limited)
 
-pub block-line-spec : {M : Type 1} → statement M
-block-line-spec =
+pub block_line_spec : {M : Type 1} → statement M
+block_line_spec =
     tie.close
     (tie.spec
     (λ c κs. search rules)

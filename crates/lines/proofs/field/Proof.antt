@@ -7,8 +7,8 @@ use Rattle.lines.proofs.field.Tie as tie
 returns : tie.Need-returns
 returns c = both c.before.decimal.ensures c.put.ensures
 
-pub field-spec : {M : Type 1} → statement M
-field-spec = tie.close (tie.spec
+pub field_spec : {M : Type 1} → statement M
+field_spec = tie.close (tie.spec
     (λ c κs. search rules)
     (λ c κs. search rules)
     returns)

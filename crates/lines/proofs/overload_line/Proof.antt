@@ -12,11 +12,11 @@ returns c =
     let f = c.before.before in
     let w = f.before in
     let p = w.before.before in
-    finished p.before.empty.ensures.0 (both (both (both p.put.ensures w.word.ensures) f.field.ensures)
-    c.word2.ensures)
+    finished p.before.empty.ensures.0 (both (both (both p.put.ensures w.word-end.ensures) f.field.ensures)
+    c.word.ensures)
 
-pub overload-line-spec : {M : Type 1} → statement M
-overload-line-spec =
+pub overload_line_spec : {M : Type 1} → statement M
+overload_line_spec =
     tie.close
     (tie.spec
     (λ c κs. search rules)

@@ -12,11 +12,11 @@ returns c =
     let f2 = c.before.before in
     let f1 = f2.before in
     let p = f1.before in
-    finished p.before.empty.ensures.0 (both (both (both p.put.ensures f1.field.ensures) f2.field2.ensures)
+    finished p.before.empty.ensures.0 (both (both (both p.put-end.ensures f1.field.ensures) f2.field-numbers.ensures)
     c.word.ensures)
 
-pub refused-line-spec : {M : Type 1} → statement M
-refused-line-spec =
+pub refused_line_spec : {M : Type 1} → statement M
+refused_line_spec =
     tie.close
     (tie.spec
     (λ c κs. search rules)

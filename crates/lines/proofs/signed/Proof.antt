@@ -8,25 +8,25 @@ use borrow.Author.Rules.{rules}
 use Rattle.lines.proofs.signed.Statement.{statement}
 use Rattle.lines.proofs.signed.Tie as tie
 
-returns : tie.Need-returns
+returns : tie.Need-returns-then-z-lt0
 returns c =
     let d = c.before in
     let a = d.before.before in
     let z = a.before.args.z in
     let f = to_z-of_z a.before.ranges.z in
-    rw (sym (negative z a.size.result (rw f at d.before.if1.true) (a.size.ensures ∙ ap mag f)))
+    rw (sym (negative z a.size-n.result (rw f at d.before.if-z-lt0.true) (a.size-n.ensures ∙ ap mag f)))
     (both d.decimal.ensures c.put.ensures)
 
-returns-2 : tie.Need-returns-2
+returns-2 : tie.Need-returns
 returns-2 c =
     let a = c.before.before in
     let z = a.before.args.z in
     let f = to_z-of_z a.before.ranges.z in
-    rw (sym (positive z a.size.result (rw f at c.before.if1.false) (a.size.ensures ∙ ap mag f)))
-    (let w = c.decimal2.ensures in record { sound = w.sound; text = w.text; room = omega (arith, w.room) })
+    rw (sym (positive z a.size-n.result (rw f at c.before.if-z-lt0.false) (a.size-n.ensures ∙ ap mag f)))
+    (let w = c.decimal-2.ensures in record { sound = w.sound; text = w.text; room = omega (arith, w.room) })
 
-pub signed-spec : {M : Type 1} → statement M
-signed-spec =
+pub signed_spec : {M : Type 1} → statement M
+signed_spec =
     tie.close
     (tie.spec
     (λ c κs. search rules)

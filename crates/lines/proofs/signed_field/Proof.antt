@@ -8,8 +8,8 @@ use Rattle.lines.proofs.signed_field.Tie as tie
 returns : tie.Need-returns
 returns c = rw (to_z-of_z c.before.before.ranges.z) at (both c.before.signed.ensures c.put.ensures)
 
-pub signed-field-spec : {M : Type 1} → statement M
-signed-field-spec = tie.close (tie.spec
+pub signed_field_spec : {M : Type 1} → statement M
+signed_field_spec = tie.close (tie.spec
     (λ c κs. search rules)
     (λ c κs. search rules)
     returns)

@@ -10,13 +10,13 @@ use Rattle.lines.proofs.Laws.{turn, left, ran}
 use Rattle.lines.proofs.word.Statement.{statement}
 use Rattle.lines.proofs.word.Tie as tie
 
-abbrev invariant-loop : tie.invariant-loop
+abbrev invariant-loop : tie.invariant-loop-i
 invariant-loop bytes all₀ i₀ all i = (i ≤ length bytes) × Sound all × (take i bytes ++ held all ≡ bytes ++ held all₀)
 
-abbrev decreases-loop : tie.decreases-loop
+abbrev decreases-loop : tie.decreases-loop-i
 decreases-loop bytes all₀ i₀ all i = i
 
-loop-holds : tie.Need-loop-init invariant-loop decreases-loop
+loop-holds : tie.Need-loop-i-init invariant-loop decreases-loop
 loop-holds c = (
   omega arith,
   c.before.requires.sound,
@@ -24,35 +24,35 @@ loop-holds c = (
       (take-length c.before.args.bytes.now),
 )
 
-put-requires : tie.Need-put-requires invariant-loop decreases-loop
+put-requires : tie.Need-put-all-requires invariant-loop decreases-loop
 put-requires c κs =
     let a = c.before.before in
     let b = a.before.before.args.bytes.now in
     let start = a.before.before in
-    let after = left b start.requires.sound a.loop.invariant.1 (take a.loop.i b) a.loop.invariant.2 start.requires.room in
-    record { sound = a.loop.invariant.1; room = omega (arith, length-take-le a.loop.i b a.loop.invariant.0, after) }
+    let after = left b start.requires.sound a.loop-i.invariant.1 (take a.loop-i.i b) a.loop-i.invariant.2 start.requires.room in
+    record { sound = a.loop-i.invariant.1; room = omega (arith, length-take-le a.loop-i.i b a.loop-i.invariant.0, after) }
 
-loop-again : tie.Need-loop-preserved invariant-loop decreases-loop
+loop-again : tie.Need-loop-i-preserved invariant-loop decreases-loop
 loop-again c =
     let a = c.before.before.before in
     let b = a.before.before.args.bytes.now in
-    let i = a.loop.i in
+    let i = a.loop-i.i in
     let e : i ≡ suc (i - 1) = omega arith in (
       omega arith,
-      c.put.ensures.sound,
+      c.put-all.ensures.sound,
       turn (take i b) (take (i - 1) b)
-          (ap (λ (n : ℕ). take n b) e ∙ take-suc b (i - 1) 0 (omega arith)) c.put.ensures a.loop.invariant.2,
+          (ap (λ (n : ℕ). take n b) e ∙ take-suc b (i - 1) 0 (omega arith)) c.put-all.ensures a.loop-i.invariant.2,
     )
 
 returns : tie.Need-returns invariant-loop decreases-loop
 returns c =
     let a = c.before in
     let b = a.before.before.args.bytes.now in
-    let z : a.loop.i ≡ 0 = omega arith in
-    ran b a.before.before.requires.sound a.loop.invariant.1 (rw z at a.loop.invariant.2) (omega arith)
+    let z : a.loop-i.i ≡ 0 = omega arith in
+    ran b a.before.before.requires.sound a.loop-i.invariant.1 (rw z at a.loop-i.invariant.2) (omega arith)
 
-pub word-spec : {M : Type 1} → statement M
-word-spec =
+pub word_spec : {M : Type 1} → statement M
+word_spec =
     tie.close
     (tie.spec
     invariant-loop

@@ -9,8 +9,8 @@ print-requires : tie.Need-print-requires
 unfolding line_of
 print-requires c κs = rw c.listed.ensures (omega arith)
 
-pub list-spec : {M : Type 1} → statement M
-list-spec =
+pub list_spec : {M : Type 1} → statement M
+list_spec =
     tie.close
     (tie.spec
     (λ c κs. search rules)

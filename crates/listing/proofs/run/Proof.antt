@@ -15,17 +15,17 @@ use Rattle.listing.proofs.run.Tie as tie
 taken : (k : ℕ) → ltb k (2 ^ 64 - 1) ≡ true → (2 ^ 64 - (k + 1) < 2 ^ 64 - k) × (k + 1 < 2 ^ 64)
 taken k e = let h = ltb-true k (2 ^ 64 - 1) e in (omega arith, omega arith)
 
-abbrev invariant-loop : tie.invariant-loop
+abbrev invariant-loop : tie.invariant-loop-more
 invariant-loop samples₀ p₀ before₀ more₀ samples p before more = length samples ≡ 960
 
-abbrev decreases-loop : tie.decreases-loop
+abbrev decreases-loop : tie.decreases-loop-more
 decreases-loop samples₀ p₀ before₀ more₀ samples p before more = 2 ^ 64 - before
 
-add-before : tie.Need-overflow-add-before invariant-loop decreases-loop
-add-before c = record { fits = (taken _ c.before.before.before.before.if1.true).1 }
+add-before : tie.Need-overflow_add-before invariant-loop decreases-loop
+add-before c = record { fits = (taken _ c.before.before.before.before.if-before-lt18446744073709551615.true-raw).1 }
 
-loop-less : tie.Need-loop-smaller invariant-loop decreases-loop
-loop-less c = (taken _ c.before.before.before.before.if1.true).0
+loop-less : tie.Need-loop-more-smaller invariant-loop decreases-loop
+loop-less c = (taken _ c.before.before.before.before.if-before-lt18446744073709551615.true-raw).0
 
 pub run_spec : {M : Type 1} → statement M
 run_spec =

@@ -4,10 +4,10 @@ use native.Mathlib.Omega.{arith}
 use Rattle.log.proofs.run.Statement.{statement}
 use Rattle.log.proofs.run.Tie as tie
 
-abbrev invariant-loop : tie.invariant-loop
+abbrev invariant-loop : tie.invariant-loop-number
 invariant-loop take mode number₀ number = Unit {0}
 
-abbrev decreases-loop : tie.decreases-loop
+abbrev decreases-loop : tie.decreases-loop-number
 decreases-loop take mode number₀ number = 2 ^ 32 - number
 
 pub run_spec : {M : Type 1} → statement M

@@ -9,7 +9,7 @@ use Rattle.conference.specs.Tick.{signals_to, octets_to, desk_after, sums_limite
 use Rattle.mixer.proofs.in_turn.Statement.{statement}
 use Rattle.mixer.proofs.in_turn.Tie as tie
 
-hear-all-requires : tie.Need-hear-all-requires
+hear-all-requires : tie.Need-hear_all-heard-requires
 hear-all-requires c κs =
     let p = c.before.before.before.before.before.before.before.requires in
     (p.0, (p.1.0, (p.1.1.0, p.1.1.1.0)))
@@ -20,8 +20,8 @@ returns c =
     let s = c.before.before.before.before in
     let h = s.before.before.before.before.before.before in
     let desk = h.before.before.before.before.before.before.before.before.args.desk in
-    let heard = h.hear-all.ensures in
-    let sent = s.send-all.ensures in
+    let heard = h.hear_all-heard.ensures in
+    let sent = s.send_all-sent.ensures in
     let signals = ap (λ (l : List ℤ × List ℤ). zip (mixed l.0) (mixed l.1)) heard.left in
     let coders = (λ j. (sent.answer j).coders) ∙ ap (each_port coder_to desk.coders) signals in
     let count = (λ j. (sent.answer j).limited) ∙ ap (λ (l : List ℤ × List ℤ). sums_limited l.0 l.1) heard.left in
@@ -37,8 +37,8 @@ returns c =
       left = sent.left ∙ ap (zip_with octet_to desk.coders) signals;
     }
 
-pub in-turn-spec : {M : Type 1} → statement M
-in-turn-spec =
+pub in_turn_spec : {M : Type 1} → statement M
+in_turn_spec =
     tie.close
     (tie.spec
     hear-all-requires

@@ -8,8 +8,8 @@ use Rattle.g722.specs.declared.Coder.{Coder}
 use Rattle.g722.specs.declared.Decoder.{Decoder}
 use Rattle.conference.specs.Tick.{unseated, reset_desk, reset_call}
 use Rattle.conference.specs.declared.Ticked.{Ticked}
-use Rattle.mixer.proofs.reset.Statement.{statement}
-use Rattle.mixer.proofs.reset.Tie as tie
+use Rattle.mixer.proofs.reset-c.Statement.{statement}
+use Rattle.mixer.proofs.reset-c.Tie as tie
 
 -- the answer, by what the three calls give
 answered : (number ports : ℕ) (t : Bool) {c : Coder} {d : Decoder} {u : Bool} {a : Ticked}
@@ -34,19 +34,19 @@ answered number ports t c≡ d≡ u≡ t≡ n≡ a≡ =
       next = record { ports = ports; coders = replicate 8 (c≡ i); decoders = replicate 8 (d≡ i) };
     }
 
-returns : tie.Need-returns
+returns : tie.Need-returns-then-unseated
 returns c =
     let u = c.before.before in
     let d = u.before in
-    answered 9 d.before.before.args.ports true d.before.reset.ensures d.reset2.ensures u.unseated.ensures
-    c.before.if1.true refl c.answer.ensures
+    answered 9 d.before.before.args.ports true d.before.reset-c.ensures d.reset-d.ensures u.unseated.ensures
+    c.before.if-unseated.true refl c.answer.ensures
 
-returns-2 : tie.Need-returns-2
+returns-2 : tie.Need-returns
 returns-2 c =
     let u = c.before.before in
     let d = u.before in
-    answered 0 d.before.before.args.ports false d.before.reset.ensures d.reset2.ensures u.unseated.ensures
-    c.before.if1.false refl c.answer2.ensures
+    answered 0 d.before.before.args.ports false d.before.reset-c.ensures d.reset-d.ensures u.unseated.ensures
+    c.before.if-unseated.false refl c.answer-2.ensures
 
-pub reset-spec : {M : Type 1} → statement M
-reset-spec = tie.close (tie.spec (λ c κs. tt) (λ c κs. tt) (λ c κs. tt) (λ c κs. tt) returns (λ c κs. tt) returns-2)
+pub reset_spec : {M : Type 1} → statement M
+reset_spec = tie.close (tie.spec (λ c κs. tt) (λ c κs. tt) (λ c κs. tt) (λ c κs. tt) returns (λ c κs. tt) returns-2)

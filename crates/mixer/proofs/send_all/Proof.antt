@@ -8,7 +8,7 @@ use lib.IntN.{pos, nat_abs}
 use lib.ListN.{length}
 use mir.Syntax.{w32}
 use mir.Val.{to_z, of_z}
-use Rattle.laws.specs.Back.{back16, got32}
+use Rattle.laws.specs.Back.{back16, back32}
 use Rattle.laws.specs.Filled.{Filled, fill}
 use Rattle.facts.specs.Overload.{Counted, none_counted, room_for_two}
 use Rattle.g722.specs.Arithmetic.{limited}
@@ -22,7 +22,7 @@ use Rattle.mixer.proofs.Laws.{heards, heards_length, octets_length, next_of, oct
 use Rattle.mixer.proofs.send_all.Statement.{statement}
 use Rattle.mixer.proofs.send_all.Tie as tie
 
-abbrev invariant-loop : tie.invariant-loop
+abbrev invariant-loop : tie.invariant-loop-i
 invariant-loop low high room₀ all-low all-high t₀ limited₀ i₀ i-end room t limited i =
     (i ≤ i-end)
     × (i-end ≡ length low)
@@ -31,60 +31,60 @@ invariant-loop low high room₀ all-low all-high t₀ limited₀ i₀ i-end room
     × Filled (zip_with octet_to t₀ (heards low high)) (length low) room i
     × Counted limited (sums_left low high i) (sums_limited low high) i
 
-abbrev decreases-loop : tie.decreases-loop
+abbrev decreases-loop : tie.decreases-loop-i
 decreases-loop low high room₀ all-low all-high t₀ limited₀ i₀ i-end room t limited i = i-end - i
 
-loop-holds : tie.Need-loop-init invariant-loop decreases-loop
+loop-holds : tie.Need-loop-i-init invariant-loop decreases-loop
 unfolding sums_limited
 loop-holds c =
     let p = c.before.before.before.requires in
     (zero-le, p.1.1, search rules, none_yet _ _ _, record { long = p.1.1; is = refl }, none_counted _)
 
 -- the totals, and room for an octet
-module _ (c : tie.After-c invariant-loop decreases-loop) where
-  abbrev at : tie.At-loop invariant-loop decreases-loop
+module _ (c : tie.After-c-1 invariant-loop decreases-loop) where
+  abbrev at : tie.At-loop-i invariant-loop decreases-loop
   at = c.before.before
 
-  low-total : nat_abs (to_z w32 (of_z w32 at.before.before.total.result)) ≤ 262144
-  low-total = let t = at.before.before.total in rw (got32 t) t.ensures.1
+  low-total : nat_abs (to_z w32 (of_z w32 at.before.before.total-all_low.result)) ≤ 262144
+  low-total = let t = at.before.before.total-all_low in rw (back32 t.result t.type_inv) t.ensures.1
 
-  high-total : nat_abs (to_z w32 (of_z w32 at.before.total2.result)) ≤ 262144
-  high-total = let t = at.before.total2 in rw (got32 t) t.ensures.1
+  high-total : nat_abs (to_z w32 (of_z w32 at.before.total-all_high.result)) ≤ 262144
+  high-total = let t = at.before.total-all_high in rw (back32 t.result t.type_inv) t.ensures.1
 
-  octet-room : at.loop.i < length at.loop.room
-  octet-room = omega (arith, at.loop.inv.4.long)
+  octet-room : at.loop-i.i < length at.loop-i.room
+  octet-room = omega (arith, at.loop-i.invariant.4.long)
 
 -- the two sums of a port, limited
-module _ (s : tie.After-sent invariant-loop decreases-loop) where
-  abbrev own-high : tie.After-others2 invariant-loop decreases-loop
+module _ (s : tie.After-sent-s invariant-loop decreases-loop) where
+  abbrev own-high : tie.After-others-in-loop-i invariant-loop decreases-loop
   own-high = s.before
 
   abbrev own-low : tie.After-others invariant-loop decreases-loop
   own-low = own-high.before.before
 
-  abbrev here : tie.At-loop invariant-loop decreases-loop
+  abbrev here : tie.At-loop-i invariant-loop decreases-loop
   here = own-low.before.before.before.before
 
   abbrev start : tie.Start invariant-loop decreases-loop
   start = here.before.before.before.before
 
-  inside : here.loop.i < length start.args.low.now
-  inside = omega (arith, here.loop.inv.1)
+  inside : here.loop-i.i < length start.args.low.now
+  inside = omega (arith, here.loop-i.invariant.1)
 
   few : length start.args.low.now ≤ 8
-  few = start.pre.0
+  few = start.requires.0
 
-  low_sum : own-low.others.result ≡ limited (others_of start.args.low.now here.loop.i)
+  low_sum : own-low.others.result ≡ limited (others_of start.args.low.now here.loop-i.i)
   low_sum =
-      sum_at _ _ (got32 here.before.before.total ∙ here.before.before.total.ensures.0)
-      (back16 _ own-low.before.others-arg.given) own-low.others.ensures
+      sum_at _ _ (back32 here.before.before.total-all_low.result here.before.before.total-all_low.type_inv ∙ here.before.before.total-all_low.ensures.0)
+      (back16 _ own-low.before.others-arg-1.given) own-low.others.ensures
 
-  high_sum : own-high.others2.result ≡ limited (others_of start.args.high.now here.loop.i)
+  high_sum : own-high.others-in-loop-i.result ≡ limited (others_of start.args.high.now here.loop-i.i)
   high_sum =
-      sum_at _ _ (got32 here.before.total2 ∙ here.before.total2.ensures.0) (back16 _ own-high.before.others-arg2.given)
-      own-high.others2.ensures
+      sum_at _ _ (back32 here.before.total-all_high.result here.before.total-all_high.type_inv ∙ here.before.total-all_high.ensures.0) (back16 _ own-high.before.others-arg-in-loop-i-1.given)
+      own-high.others-in-loop-i.ensures
 
-loop-again : tie.Need-loop-preserved invariant-loop decreases-loop
+loop-again : tie.Need-loop-i-preserved invariant-loop decreases-loop
 loop-again c =
     let s = c.before.before in
     let l = here s in
@@ -92,8 +92,8 @@ loop-again c =
     let low = a.low.now in
     let high = a.high.now in
     let t₀ = a.coders in
-    let i = l.loop.i in
-    let v = l.loop.inv in
+    let i = l.loop-i.i in
+    let v = l.loop-i.invariant in
     let alike = (start s).requires.1.0 in
     let in_low = inside s in
     let in_high : i < length high = rw alike in_low in
@@ -106,39 +106,39 @@ loop-again c =
       v.1,
       v.2,
       one_more _ _ _ v.3 _ (pos 0, pos 0) in_table (rw (heards_length t₀ low high alike) in_low)
-          (next_of t₀ low high alike _ _ _ i s.sent.ensures in_low xl xh),
+          (next_of t₀ low high alike _ _ _ i s.sent-s.ensures in_low xl xh),
       fill _ _ v.4 0 (rw (octets_length t₀ low high alike all) in_low) in_low
-          (octet_of_lem t₀ low high alike _ _ _ i s.sent.ensures in_low xl xh _ stood in_table),
-      sums_counted low high alike _ _ _ in_low v.5 s.sent.ensures (low_sum s) (high_sum s),
+          (octet_of_lem t₀ low high alike _ _ _ i s.sent-s.ensures in_low xl xh _ stood in_table),
+      sums_counted low high alike _ _ _ in_low v.5 s.sent-s.ensures (low_sum s) (high_sum s),
     )
 
 -- the count has room for two more
-add-limited : tie.Need-overflow-add-limited invariant-loop decreases-loop
+add-limited : tie.Need-overflow_add-limited invariant-loop decreases-loop
 unfolding sent_of
 add-limited c =
     let s = c.before.before in
-    let v = (here s).loop.invariant in
-    omega (arith, room_for_two _ _ v.5 (omega (arith, inside s, few s)) (λ j. (s.sent.ensures j).limited))
+    let v = (here s).loop-i.invariant in
+    omega (arith, room_for_two _ _ v.5 (omega (arith, inside s, few s)) (λ j. (s.sent-s.ensures j).limited))
 
-same_length : tie.Need-same-length invariant-loop decreases-loop
-same_length c = c.before.loop.invariant.4.long ∙ sym c.before.before.before.before.before.requires.1.1
+same_length : tie.Need-shape_of-room invariant-loop decreases-loop
+same_length c = c.before.loop-i.invariant.4.long ∙ sym c.before.before.before.before.before.requires.1.1
 
 returns : tie.Need-returns invariant-loop decreases-loop
 returns c =
     let l = c.before in
     let a = l.before.before.before.before.args in
     let p = l.before.before.before.before.requires in
-    let v = l.loop.invariant in
+    let v = l.loop-i.invariant in
     let few : length a.low.now ≤ length a.coders = omega arith in
     let pairs = heards_length a.coders a.low.now a.high.now p.1.0 in
     let octets = octets_length a.coders a.low.now a.high.now p.1.0 few in
-    let count : l.loop.limited ≡ sums_limited a.low.now a.high.now =
-    omega (arith, v.5.all, none_left a.low.now a.high.now p.1.0 l.loop.i (omega arith)) in
+    let count : l.loop-i.limited ≡ sums_limited a.low.now a.high.now =
+    omega (arith, v.5.all, none_left a.low.now a.high.now p.1.0 l.loop-i.i (omega arith)) in
     let coders = all_ports _ _ _ v.3 (omega arith) in
     record { answer = λ j. record { limited = count j; coders = coders j }; left = full v.4 (omega arith) (omega arith) }
 
-pub send-all-spec : {M : Type 1} → statement M
-send-all-spec =
+pub send_all_spec : {M : Type 1} → statement M
+send_all_spec =
     tie.close
     (tie.spec
     invariant-loop
@@ -160,7 +160,7 @@ send-all-spec =
     (λ c. omega arith)
     add-limited
     (λ c. let s = c.before.before in omega (arith, inside s, few s))
-    (λ c. let s = c.before.before in omega (arith, inside s, (here s).loop.invariant.1))
+    (λ c. let s = c.before.before in omega (arith, inside s, (here s).loop-i.invariant.1))
     loop-again
     same_length
     returns)

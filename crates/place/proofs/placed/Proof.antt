@@ -120,7 +120,7 @@ module _ {M : Type 1} {𝓤 : Ura M} (𝓛 : Logic 𝓤) (mem : Memory → SProp
         lft_new ! tt (λ α. move ! (11 ∷ []) $ use1 𝓛 (later (some (Lent R l₄ xs k (α ∷ []) 𝓤 d)))
         (lends R l₄ xs k (α ∷ []) 𝓤 𝓛 8 inside tt (makes 𝓛) v are d) $ await ! tt $ pick ! (λ δ. split ! $
         -- [the borrow; what is kept of the table; the token; _9; …; _8; …; _7; …; _6; …; _5; …; …; _3; …; _2; …; _1; …; room for _0; …]
-        move ! (2 ∷ 0 ∷ []) $ use2 𝓛 (raw ((Store 𝓛 mem run).pre (call l₄ α δ)))
+        move ! (2 ∷ 0 ∷ []) $ use2 𝓛 (raw ((Store 𝓛 mem run).requires (call l₄ α δ)))
         (pays 𝓛 mem run l₄ (place bytes 0 k) α δ (get_or xs k d) d is) $
         calls_at ! (fm_of 𝓤 H 𝓛.laws 𝓣) (Store 𝓛 mem run) known (call l₄ α δ) (and_then ! (load ! (from ! (stop !)) (look ! 2 refl))
         (and_then ! (load ! (from ! (stop !)) (look ! 13 refl)) (no_more !))) (λ w.
@@ -157,7 +157,7 @@ module _ {M : Type 1} {𝓤 : Ura M} (𝓛 : Logic 𝓤) (mem : Memory → SProp
       (λ κs qs bounds a g are. needs 𝓤 (a.1.0 < 8) _
       (walk a.0 _ a.1.0 a.1.1.0 are.0 are.1.0.1 are.1.1.0)))
 
-pub placed-spec : {M : Type 1} → stated.statement M
+pub placed_spec : {M : Type 1} → stated.statement M
 unfolding code.routine tables_of
 placed-spec 𝓤 𝓛 𝓜 𝓡 =
     entered 𝓤 𝓛.H (triple_of 𝓛 placed.signature (placed.spec 𝓛 𝓜.mem 𝓡.run))

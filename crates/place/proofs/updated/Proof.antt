@@ -7,11 +7,11 @@ use lib.Seq.{set_out}
 use Rattle.place.proofs.updated.Statement.{statement}
 use Rattle.place.proofs.updated.Tie as tie
 
-returns-2 : tie.Need-returns-2
+returns-2 : tie.Need-returns
 returns-2 c =
     let s = c.before in
     let eight : length s.args.decoders ≡ 8 = search rules in
     sym (set_out _ _ _ (omega arith))
 
-pub updated-spec : {M : Type 1} → statement M
-updated-spec = tie.close (tie.spec (λ c κs. search rules) (λ c. search rules) returns-2)
+pub updated_spec : {M : Type 1} → statement M
+updated_spec = tie.close (tie.spec (λ c κs. search rules) (λ c. search rules) returns-2)

@@ -4,13 +4,13 @@ use Rattle.playing.specs.Play.{begins}
 use Rattle.player.proofs.begins.Statement.{statement}
 use Rattle.player.proofs.begins.Tie as tie
 
-returns : tie.Need-returns
+returns : tie.Need-returns-then-block-eq0
 unfolding begins
-returns c = rw (eq-eqb _ 0 c.if1.true)
+returns c = rw (eq-eqb _ 0 c.if-block-eq0.true)
 
-returns-2 : tie.Need-returns-2
+returns-2 : tie.Need-returns
 unfolding begins
-returns-2 c = rw (ne_eqb _ 0 c.if1.false)
+returns-2 c = rw (ne_eqb _ 0 c.if-block-eq0.false)
 
-pub begins-spec : {M : Type 1} → statement M
-begins-spec = tie.close (tie.spec returns returns-2)
+pub begins_spec : {M : Type 1} → statement M
+begins_spec = tie.close (tie.spec returns returns-2)

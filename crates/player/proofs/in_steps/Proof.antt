@@ -10,10 +10,10 @@ returns c =
     let h = j.before.before.before.before.before.before in
     let s = h.before.before.before.before in
     let fits = s.requires.1 in
-    stepped _ _ _ s.requires.0.0 s.requires.0.1 _ _ _ fits.0.0 fits.0.1 fits.1 h.hear.ensures j.join.ensures
+    stepped _ _ _ s.requires.0.0 s.requires.0.1 _ _ _ fits.0.0 fits.0.1 fits.1 h.hear-heard.ensures j.join.ensures
 
-pub in-steps-spec : {M : Type 1} → statement M
-in-steps-spec =
+pub in_steps_spec : {M : Type 1} → statement M
+in_steps_spec =
     tie.close
     (tie.spec
     (λ c κs. search rules)

@@ -6,7 +6,7 @@ use Rattle.player.proofs.start.Tie as tie
 
 returns : tie.Need-returns
 unfolding start_player
-returns c = rw c.reset.ensures
+returns c = rw c.reset-d.ensures
 
 pub start_spec : {M : Type 1} → statement M
 start_spec = tie.close (tie.spec (λ c κs. search rules) returns)

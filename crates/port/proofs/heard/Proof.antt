@@ -18,10 +18,10 @@ returns c =
     let l = h.before in
     let f = l.before in
     let args = f.before.before.before.before.args in
-    let x = l.low-heard.ensures ∙ ap (λ (m : ℕ). low_heard m args.d.low args.octet) f.in-force.ensures in
-    let y = h.high-heard.ensures in
-    let rl = back16 l.low-heard.result.signal.value c.before.struct_told.given.0.1 in
-    let rh = back16 h.high-heard.result.signal.value c.struct-told2.given.0.1 in
+    let x = l.low_heard-x.ensures ∙ ap (λ (m : ℕ). low_heard m args.d.low args.octet) f.in_force.ensures in
+    let y = h.high_heard-y.ensures in
+    let rl = back16 l.low_heard-x.result.signal.value c.before.struct_told-1.given.0.1 in
+    let rh = back16 h.high_heard-y.result.signal.value c.struct_told-2-1.given.0.1 in
     λ i.
     record {
       rl = (rl ∙ λ j. (x j).signal.value) i;
@@ -29,5 +29,5 @@ returns c =
       next = record { low = (x i).next; high = (y i).next; past = args.d.past };
     }
 
-pub heard-spec : {M : Type 1} → statement M
-heard-spec = tie.close (tie.spec (λ c κs. tt) (λ c κs. tt) (λ c κs. tt) returns)
+pub heard_spec : {M : Type 1} → statement M
+heard_spec = tie.close (tie.spec (λ c κs. tt) (λ c κs. tt) (λ c κs. tt) returns)

@@ -13,9 +13,9 @@ returns c =
     let b = c.before.before.before in
     let t = b.before.before in
     let args = t.before.before.before.before.args in
-    let xl = back16 args.xl.value t.struct_told.given.0.1 in
-    let xh = back16 args.xh.value b.before.struct-told2.given.0.1 in
-    let e = b.bands-coded.ensures ∙ λ i. bands_coded args.c.low args.c.high (xl i) (xh i) in
+    let xl = back16 args.xl.value t.struct_told-1.given.0.1 in
+    let xh = back16 args.xh.value b.before.struct_told-2-1.given.0.1 in
+    let e = b.bands_coded-b.ensures ∙ λ i. bands_coded args.c.low args.c.high (xl i) (xh i) in
     λ i.
     record {
       octet = (e i).octet;
@@ -23,5 +23,5 @@ returns c =
       next = record { low = (e i).low; high = (e i).high; past = args.c.past };
     }
 
-pub sent-spec : {M : Type 1} → statement M
-sent-spec = tie.close (tie.spec (λ c κs. tt) (λ c κs. tt) returns)
+pub sent_spec : {M : Type 1} → statement M
+sent_spec = tie.close (tie.spec (λ c κs. tt) (λ c κs. tt) returns)

@@ -9,13 +9,13 @@ use Rattle.quant.specs.Unstopped.{unstopped}
 use Rattle.quant.proofs.product.Statement.{statement}
 use Rattle.quant.proofs.product.Tie as tie
 
-first : (c : tie.After-wide2) → to_z w32 (of_z w32 c.before.wide.result) ≡ c.before.before.args.a
-first c = widened c.before.wide.type-inv c.before.wide.ensures c.before.before.ranges.a
+first : (c : tie.After-wide-2) → to_z w32 (of_z w32 c.before.wide.result) ≡ c.before.before.args.a
+first c = widened c.before.wide.type_inv c.before.wide.ensures c.before.before.ranges.a
 
-second : (c : tie.After-wide2) → to_z w32 (of_z w32 c.wide2.result) ≡ c.before.before.args.b
-second c = widened c.wide2.type-inv c.wide2.ensures c.before.before.ranges.b
+second : (c : tie.After-wide-2) → to_z w32 (of_z w32 c.wide-2.result) ≡ c.before.before.args.b
+second c = widened c.wide-2.type_inv c.wide-2.ensures c.before.before.ranges.b
 
-mul-result : tie.Need-overflow-mul-result
+mul-result : tie.Need-overflow_mul-result
 mul-result c = rw (first c, second c) (product_fits c.before.before.ranges.a c.before.before.ranges.b)
 
 returns : tie.Need-returns
@@ -24,5 +24,5 @@ returns c =
     let m = mul-result c in
     rw (to_z-of_z m, to_z-of_z (shr_fits 32768 m), first c, second c) (sym (unstopped s.args.a s.args.b s.requires s.ranges.b))
 
-pub product-spec : {M : Type 1} → statement M
-product-spec = tie.close (tie.spec (λ c κs. tt) (λ c κs. tt) mul-result returns)
+pub product_spec : {M : Type 1} → statement M
+product_spec = tie.close (tie.spec (λ c κs. tt) (λ c κs. tt) mul-result returns)

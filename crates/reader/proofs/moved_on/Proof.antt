@@ -49,10 +49,10 @@ use Rattle.reader.specs.Walk.{next_at}
 use Rattle.reader.specs.declared.Reader.{Reader}
 use Rattle.reader.specs.contracts.Reader as T
 use Rattle.reader.proofs.Reader.TheLaws as T'
-use Rattle.reader.specs.contracts.next_at as next_at_lem
-use Rattle.reader.proofs.next_at.Symbol as next-at-def
-use Rattle.reader.proofs.next_at.Symbol.{name as #reader·next-at}
-use Rattle.reader.proofs.next_at.Met as next-at-thm
+use Rattle.reader.specs.contracts.next_at-at as next_at_lem
+use Rattle.reader.proofs.next_at-at.Symbol as next-at-def
+use Rattle.reader.proofs.next_at-at.Symbol.{name as #reader·next-at}
+use Rattle.reader.proofs.next_at-at.Met as next-at-thm
 use Rattle.reader.specs.contracts.moved_on.Key.{name as #reader·moved-on}
 use Rattle.reader.specs.contracts.moved_on as moved_on
 use Rattle.reader.proofs.moved_on.Statement as stated
@@ -111,13 +111,13 @@ module _ {M : Type 1} {𝓤 : Ura M} (𝓛 : Logic 𝓤) (mem : Memory → SProp
   abbrev to : (NextAt 𝓛 mem run).Ghost
   to = (((κ, tt), (q, tt), tt, (d.src, (d.at, tt)), passed), tt)
 
-  asked : ent 𝓤 (on_entry 𝓛 next_at_lem.signature (κ, tt) (q, tt) (d.src, (d.at, tt)) passed) ((NextAt 𝓛 mem run).pre to)
+  asked : ent 𝓤 (on_entry 𝓛 next_at_lem.signature (κ, tt) (q, tt) (d.src, (d.at, tt)) passed) ((NextAt 𝓛 mem run).requires to)
   asked = qed 𝓛 ((‵ (flft κ q) ⊛ ‵ ftrue) ∷ ‵ (owns (ShrSlice (named 0) κ u8 ∷ usize ∷ []) (d.src, (d.at, tt)) passed) ∷ []) ∵ join ! $
       frame ! $ done !
 
   -- what the struct owns gives what the callee asks, and is kept
   apart : d.at < 2 ^ 64 → ent 𝓤 (on_entry 𝓛 moved_on.signature (κ, tt) (q, tt) (d, tt) (mach ∷ [], tt))
-      (sep 𝓤 ((NextAt 𝓛 mem run).pre to) (sem 𝓛 Own))
+      (sep 𝓤 ((NextAt 𝓛 mem run).requires to) (sem 𝓛 Own))
   apart fits =
       qed 𝓛 ((‵ (flft κ q) ⊛ ‵ ftrue) ∷ ‵ (owns (B (κ, tt) ∷ []) (d, tt) (mach ∷ [], tt)) ∷ []) ∵
       move ! (1 ∷ []) $ fsplit ! $ move ! (1 ∷ []) $ drop ! $
@@ -127,7 +127,7 @@ module _ {M : Type 1} {𝓤 : Ura M} (𝓛 : Logic 𝓤) (mem : Memory → SProp
       -- [what src owns; what at owns; what the struct owns; the token]
       move ! (1 ∷ []) $ drop ! $ nothing ! $ owned ! usize (Is usize) (uint_Makes 𝓛 w64) d.at _ (refl, fits) $ fjoin ! $
       move ! (1 ∷ 0 ∷ []) $ fjoin ! $
-      move ! (2 ∷ 0 ∷ []) $ use2 𝓛 (raw ((NextAt 𝓛 mem run).pre to)) asked $ frame ! $ done !)
+      move ! (2 ∷ 0 ∷ []) $ use2 𝓛 (raw ((NextAt 𝓛 mem run).requires to)) asked $ frame ! $ done !)
 
   -- of the callee's `ensured`, the clause alone: it has no `&mut`, so what is said of last values is dropped
   said : (r : ℕ) → ent 𝓤 (ensured 𝓛 next_at_lem.ended (next_at_lem.clauses 𝓛 mem run) (κ, tt) (d.src, (d.at, tt)) tt r)
@@ -157,7 +157,7 @@ module _ {M : Type 1} {𝓤 : Ura M} (𝓛 : Logic 𝓤) (mem : Memory → SProp
         (init ! 4 refl (tt, wt.1.0)) $
         assigns ! (of_opd ! (load ! (from ! (fld ! refl (stop !))) (look_in ! 8 (sub ! 1 refl (whole !))))) (from ! (stop !))
         (init ! 2 refl (tt, wt.1.1.0)) $
-        move ! (12 ∷ []) $ use1 𝓛 (raw ((NextAt 𝓛 mem run).pre to) ⊛ ‵ Own) (apart wt.1.1.0.fits) $ split ! $
+        move ! (12 ∷ []) $ use1 𝓛 (raw ((NextAt 𝓛 mem run).requires to) ⊛ ‵ Own) (apart wt.1.1.0.fits) $ split ! $
         calls_at ! fm (NextAt 𝓛 mem run) known to (and_then ! (load ! (from ! (stop !)) (look ! 6 refl))
         (and_then ! (load ! (from ! (stop !)) (look ! 4 refl)) (no_more !))) (λ u.
         use1 𝓛 (later (some (λ (n : ℕ). ((‵ (flft κ q) ⊛ ‵ ftrue) ⊛ ‵ (usize.own_val n (u ∷ []))) ⊛ raw
@@ -199,7 +199,7 @@ moved-on-meets {𝓤 = 𝓤} 𝓛 mem run 𝓣 known-next-at = walk_Meets 𝓛 m
     (moved_on.clauses 𝓛 mem run) (WpFn 𝓤 𝓛.H 𝓣.C 𝓣.Λ code.function) (WpFn-mono 𝓤 𝓛.H 𝓛.laws 𝓣 code.function)
     (moved-on-walks 𝓛 mem run 𝓣.C 𝓣.Λ (fm_of 𝓤 𝓛.H 𝓛.laws 𝓣) known-next-at)
 
-pub moved-on-spec : {M : Type 1} → stated.statement M
+pub moved_on_spec : {M : Type 1} → stated.statement M
 unfolding code.routine tables_of
 moved-on-spec 𝓤 𝓛 𝓜 𝓡 =
     entered 𝓤 𝓛.H (triple_of 𝓛 moved_on.signature (moved_on.spec 𝓛 𝓜.mem 𝓡.run))

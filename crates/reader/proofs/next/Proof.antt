@@ -110,13 +110,13 @@ module _ {M : Type 1} {𝓤 : Ura M} (𝓛 : Logic 𝓤) (mem : Memory → SProp
   abbrev to : (StepAt 𝓛 mem run).Ghost
   to = (((κ, tt), (q, tt), tt, (d.src, (d.at, tt)), passed), tt)
 
-  asked : ent 𝓤 (on_entry 𝓛 step.signature (κ, tt) (q, tt) (d.src, (d.at, tt)) passed) ((StepAt 𝓛 mem run).pre to)
+  asked : ent 𝓤 (on_entry 𝓛 step.signature (κ, tt) (q, tt) (d.src, (d.at, tt)) passed) ((StepAt 𝓛 mem run).requires to)
   asked = qed 𝓛 ((‵ (flft κ q) ⊛ ‵ ftrue) ∷ ‵ (owns (ShrSlice (named 0) κ u8 ∷ usize ∷ []) (d.src, (d.at, tt)) passed) ∷ []) ∵ join ! $
       frame ! $ done !
 
   -- what the struct owns gives what the callee asks, and is kept
   apart : d.at < 2 ^ 64 → ent 𝓤 (on_entry 𝓛 next.signature (κ, tt) (q, tt) (d, tt) (mach ∷ [], tt))
-      (sep 𝓤 ((StepAt 𝓛 mem run).pre to) (sem 𝓛 Own))
+      (sep 𝓤 ((StepAt 𝓛 mem run).requires to) (sem 𝓛 Own))
   apart fits =
       qed 𝓛 ((‵ (flft κ q) ⊛ ‵ ftrue) ∷ ‵ (owns (B (κ, tt) ∷ []) (d, tt) (mach ∷ [], tt)) ∷ []) ∵
       move ! (1 ∷ []) $ fsplit ! $ move ! (1 ∷ []) $ drop ! $
@@ -126,7 +126,7 @@ module _ {M : Type 1} {𝓤 : Ura M} (𝓛 : Logic 𝓤) (mem : Memory → SProp
       -- [what src owns; what at owns; what the struct owns; the token]
       move ! (1 ∷ []) $ drop ! $ nothing ! $ owned ! usize (Is usize) (uint_Makes 𝓛 w64) d.at _ (refl, fits) $ fjoin ! $
       move ! (1 ∷ 0 ∷ []) $ fjoin ! $
-      move ! (2 ∷ 0 ∷ []) $ use2 𝓛 (raw ((StepAt 𝓛 mem run).pre to)) asked $ frame ! $ done !)
+      move ! (2 ∷ 0 ∷ []) $ use2 𝓛 (raw ((StepAt 𝓛 mem run).requires to)) asked $ frame ! $ done !)
 
   -- of the callee's `ensured`, the clause alone: it has no `&mut`, so what is said of last values is dropped
   said : (r : Step) → ent 𝓤 (ensured 𝓛 step.ended (step.clauses 𝓛 mem run) (κ, tt) (d.src, (d.at, tt)) tt r) (fact 𝓤 (r ≡ found))
@@ -150,7 +150,7 @@ module _ {M : Type 1} {𝓤 : Ura M} (𝓛 : Logic 𝓤) (mem : Memory → SProp
         (init ! 2 refl (tt, wt.1.0)) $
         assigns ! (of_opd ! (load ! (from ! (fld ! refl (stop !))) (look_in ! 4 (sub ! 1 refl (whole !))))) (from ! (stop !))
         (init ! 0 refl (tt, wt.1.1.0)) $
-        move ! (8 ∷ []) $ use1 𝓛 (raw ((StepAt 𝓛 mem run).pre to) ⊛ ‵ Own) (apart wt.1.1.0.fits) $ split ! $
+        move ! (8 ∷ []) $ use1 𝓛 (raw ((StepAt 𝓛 mem run).requires to) ⊛ ‵ Own) (apart wt.1.1.0.fits) $ split ! $
         calls_at ! fm (StepAt 𝓛 mem run) known to (and_then ! (load ! (from ! (stop !)) (look ! 4 refl))
         (and_then ! (load ! (from ! (stop !)) (look ! 2 refl)) (no_more !))) (λ u.
         use1 𝓛 (later (some (λ (r : Step). ((‵ (flft κ q) ⊛ ‵ ftrue) ⊛ ‵ ((S.the_row).own_val r (u ∷ []))) ⊛ raw
@@ -184,7 +184,7 @@ next-meets {𝓤 = 𝓤} 𝓛 mem run 𝓣 Known-step = walk_Meets 𝓛 next.end
     (next.clauses 𝓛 mem run) (WpFn 𝓤 𝓛.H 𝓣.C 𝓣.Λ code.function) (WpFn-mono 𝓤 𝓛.H 𝓛.laws 𝓣 code.function)
     (next-walks 𝓛 mem run 𝓣.C 𝓣.Λ (fm_of 𝓤 𝓛.H 𝓛.laws 𝓣) Known-step)
 
-pub next-spec : {M : Type 1} → stated.statement M
+pub next_spec : {M : Type 1} → stated.statement M
 unfolding code.routine tables_of
 next-spec 𝓤 𝓛 𝓜 𝓡 =
     entered 𝓤 𝓛.H (triple_of 𝓛 next.signature (next.spec 𝓛 𝓜.mem 𝓡.run))

@@ -5,7 +5,7 @@ use Rattle.reader.proofs.next_at.Statement.{statement}
 use Rattle.reader.proofs.next_at.Tie as tie
 
 returns : tie.Need-returns
-returns c = ap (λ (s : Step). s.next) c.step-at.ensures
+returns c = ap (λ (s : Step). s.next) c.step_at.ensures
 
-pub next-at-spec : {M : Type 1} → statement M
-next-at-spec = tie.close (tie.spec (λ c κs. tt) returns)
+pub next_at_spec : {M : Type 1} → statement M
+next_at_spec = tie.close (tie.spec (λ c κs. tt) returns)

@@ -12,10 +12,10 @@ use borrow.Author.Rules.{rules}
 use Rattle.reader.proofs.step_at.Statement.{statement}
 use Rattle.reader.proofs.step_at.Tie as tie
 
-returns : tie.Need-returns
+returns : tie.Need-returns-then-whole-at
 returns c = let a = c.before.before.before.args in c.ended.ensures ∙ sym (step_end a.src.now a.at (omega arith))
 
-returns-2 : tie.Need-returns-2
+returns-2 : tie.Need-returns-then-at-whole
 returns-2 c =
     let r = c.before in
     let a = r.before.before.before.before.before.args in
@@ -25,20 +25,20 @@ returns-2 c =
     (r.read.ensures ∙ ap (λ (k : ℕ). read_call (take k (drop from a.src.now))) n)
     ∙ sym (step_whole a.src.now a.at (omega arith))
 
-returns-3 : tie.Need-returns-3
-returns-3 c = let a = c.before.before.before.before.before.args in c.ended2.ensures
+returns-3 : tie.Need-returns-then-src-from
+returns-3 c = let a = c.before.before.before.before.before.args in c.ended-then-src-from.ensures
     ∙ sym (step_end a.src.now a.at (omega arith))
 
-returns-4 : tie.Need-returns-4
+returns-4 : tie.Need-returns
 returns-4 c =
     let r = c.before in
     let a = r.before.before.before.before.before.before.args in
-    c.stood2.ensures ∙ ap (λ (x : BlockRead). stood x a.at)
-    (r.read2.ensures ∙ read_6 _ (λ e. omega (arith, simp (length-take, length-drop) at e)))
+    c.stood-2.ensures ∙ ap (λ (x : BlockRead). stood x a.at)
+    (r.read-2.ensures ∙ read_6 _ (λ e. omega (arith, simp (length-take, length-drop) at e)))
     ∙ sym (step_short a.src.now a.at (omega arith) (omega arith))
 
-pub step-at-spec : {M : Type 1} → statement M
-step-at-spec =
+pub step_at_spec : {M : Type 1} → statement M
+step_at_spec =
     tie.close
     (tie.spec
     (λ c κs. search rules)

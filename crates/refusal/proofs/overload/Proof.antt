@@ -5,11 +5,11 @@ use Rattle.refusal.proofs.Laws.{within}
 use Rattle.refusal.proofs.overload.Statement.{statement}
 use Rattle.refusal.proofs.overload.Tie as tie
 
-size : tie.Need-slice-aggregate-write-from
+size : tie.Need-slice_bounds-write_from-end
 size c = search rules
 
-write-from-requires : tie.Need-write-from-requires
-write-from-requires c κs = omega (arith, size c, within _ _ c.before.before.overload-line.ensures)
+write-from-requires : tie.Need-write_from-requires
+write-from-requires c κs = omega (arith, size c, within _ _ c.before.before.overload_line-line.ensures)
 
-pub overload-spec : {M : Type 1} → statement M
-overload-spec = tie.close (tie.spec (λ c κs. search rules) size write-from-requires (λ c. search rules) (λ c. search rules))
+pub overload_spec : {M : Type 1} → statement M
+overload_spec = tie.close (tie.spec (λ c κs. search rules) size write-from-requires (λ c. search rules) (λ c. search rules))

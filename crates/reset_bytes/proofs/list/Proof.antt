@@ -6,14 +6,14 @@ use lib.ListN.{length}
 use Rattle.reset_bytes.proofs.list.Statement.{statement}
 use Rattle.reset_bytes.proofs.list.Tie as tie
 
-abbrev invariant-loop : tie.invariant-loop
+abbrev invariant-loop : tie.invariant-loop-i
 invariant-loop bytes i₀ i-end i = (i ≤ i-end) × (i-end ≡ length bytes)
 
-abbrev decreases-loop : tie.decreases-loop
+abbrev decreases-loop : tie.decreases-loop-i
 decreases-loop bytes i₀ i-end i = i-end - i
 
-pub list-spec : {M : Type 1} → statement M
-list-spec =
+pub list_spec : {M : Type 1} → statement M
+list_spec =
     tie.close
     (tie.spec
     invariant-loop
@@ -23,5 +23,5 @@ list-spec =
     (λ c κs. tt)
     (λ c. omega arith)
     (λ c. omega arith)
-    (λ c. (omega arith, c.before.before.before.loop.invariant.1))
+    (λ c. (omega arith, c.before.before.before.loop-i.invariant.1))
     (λ c. tt))

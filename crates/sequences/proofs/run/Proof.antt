@@ -5,10 +5,10 @@ use borrow.Author.Rules.{rules}
 use Rattle.sequences.proofs.run.Statement.{statement}
 use Rattle.sequences.proofs.run.Tie as tie
 
-abbrev invariant-loop : tie.invariant-loop
+abbrev invariant-loop : tie.invariant-loop-i
 invariant-loop count i₀ i = i ≤ 1001
 
-abbrev decreases-loop : tie.decreases-loop
+abbrev decreases-loop : tie.decreases-loop-i
 decreases-loop count i₀ i = 1001 - i
 
 pub run_spec : {M : Type 1} → statement M

@@ -7,18 +7,18 @@ use Rattle.sub_bands.proofs.code.Statement.{statement}
 use Rattle.sub_bands.proofs.code.Tie as tie
 
 -- that the length fits stands here too, for `omega` does not look as far back as the function's entry
-abbrev invariant-loop : tie.invariant-loop
+abbrev invariant-loop : tie.invariant-loop-i
 invariant-loop pairs octets₀ low₀ high₀ i₀ i-end octets low high i =
     (i ≤ length octets₀) × (length octets ≡ length octets₀) × (length octets₀ < 2 ^ 64)
 
-abbrev decreases-loop : tie.decreases-loop
+abbrev decreases-loop : tie.decreases-loop-i
 decreases-loop pairs octets₀ low₀ high₀ i₀ i-end octets low high i = length octets₀ - i
 
-loop-again : tie.Need-loop-preserved invariant-loop decreases-loop
+loop-again : tie.Need-loop-i-preserved invariant-loop decreases-loop
 loop-again c = (omega arith, simp length-set (omega arith), omega arith)
 
-pub code-spec : {M : Type 1} → statement M
-code-spec =
+pub code_spec : {M : Type 1} → statement M
+code_spec =
     tie.close
     (tie.spec
     invariant-loop

@@ -5,21 +5,21 @@ use Rattle.sweep.specs.Block.{takes}
 use Rattle.sweep.proofs.takes.Statement.{statement}
 use Rattle.sweep.proofs.takes.Tie as tie
 
-returns : tie.Need-returns
+returns : tie.Need-returns-then-places-gt160
 unfolding takes
 returns c = simp (lt-ltb 160 c.before.args.places (omega arith))
 
-returns-2 : tie.Need-returns-2
+returns-2 : tie.Need-returns-then-items-places
 unfolding takes
 returns-2 c =
     let s = c.before.before in
-    simp (le-ltb 160 s.args.places (omega arith), ne_eqb s.args.items s.args.places c.if2.true)
+    simp (le-ltb 160 s.args.places (omega arith), ne_eqb s.args.items s.args.places c.if-items-places.true)
 
-returns-3 : tie.Need-returns-3
+returns-3 : tie.Need-returns
 unfolding takes
 returns-3 c =
     let a = c.before.before.before.args in
-    simp (c.good-poles.ensures, le-ltb 160 a.places (omega arith), eq-eqb a.items a.places c.before.if2.false)
+    simp (c.good_poles.ensures, le-ltb 160 a.places (omega arith), eq-eqb a.items a.places c.before.if-items-places.false)
 
-pub takes-spec : {M : Type 1} → statement M
-takes-spec = tie.close (tie.spec returns returns-2 (λ c κs. tt) returns-3)
+pub takes_spec : {M : Type 1} → statement M
+takes_spec = tie.close (tie.spec returns returns-2 (λ c κs. tt) returns-3)

@@ -116,7 +116,7 @@ module _ {M : Type 1} {𝓤 : Ura M} (𝓛 : Logic 𝓤) (mem : Memory → SProp
   to-moved r u = (((κ, tt), (q, tt), tt, (r, tt), (u ∷ [], tt)), tt)
 
   goes_moved : (r : Reader) (u : Val) → ent 𝓤 (⋆ 𝓛 (‵ ((B (κ, tt)).own_val r (u ∷ [])) ∷ (‵ (flft κ q) ⊛ ‵ ftrue)
-      ∷ [])) ((MovedOn 𝓛 mem run).pre (to-moved r u))
+      ∷ [])) ((MovedOn 𝓛 mem run).requires (to-moved r u))
   goes_moved r u = qed 𝓛 (‵ ((B (κ, tt)).own_val r (u ∷ [])) ∷ (‵ (flft κ q) ⊛ ‵ ftrue) ∷ []) ∵ nothing ! $ move ! (1 ∷ 0 ∷ []) $ fjoin ! $
       move ! (1 ∷ 0 ∷ []) $ join ! $ frame ! $ done !
 
@@ -124,12 +124,12 @@ module _ {M : Type 1} {𝓤 : Ura M} (𝓛 : Logic 𝓤) (mem : Memory → SProp
   to-next r u = (((κ, tt), (q, tt), tt, (r, tt), (u ∷ [], tt)), tt)
 
   goes-next : (r : Reader) (u : Val) → ent 𝓤 (⋆ 𝓛 (‵ ((B (κ, tt)).own_val r (u ∷ [])) ∷ (‵ (flft κ q) ⊛ ‵ ftrue)
-      ∷ [])) ((Next 𝓛 mem run).pre (to-next r u))
+      ∷ [])) ((Next 𝓛 mem run).requires (to-next r u))
   goes-next r u = qed 𝓛 (‵ ((B (κ, tt)).own_val r (u ∷ [])) ∷ (‵ (flft κ q) ⊛ ‵ ftrue) ∷ []) ∵ nothing ! $ move ! (1 ∷ 0 ∷ []) $ fjoin ! $
       move ! (1 ∷ 0 ∷ []) $ join ! $ frame ! $ done !
 
   -- what the slice owns is had twice: one copy is kept, and of the other and the number the struct is made
-  apart : ent 𝓤 (on_entry 𝓛 after.signature (κ, tt) (q, tt) (s, (n, tt)) at) (sep 𝓤 ((MovedOn 𝓛 mem run).pre (to-moved made
+  apart : ent 𝓤 (on_entry 𝓛 after.signature (κ, tt) (q, tt) (s, (n, tt)) at) (sep 𝓤 ((MovedOn 𝓛 mem run).requires (to-moved made
       (T'.lowered made))) (sem 𝓛 Own))
   apart =
       qed 𝓛 ((‵ (flft κ q) ⊛ ‵ ftrue) ∷ ‵ (owns (ShrSlice (named 0) κ u8 ∷ usize ∷ []) (s, (n, tt)) at) ∷ []) ∵
@@ -138,7 +138,7 @@ module _ {M : Type 1} {𝓤 : Ura M} (𝓛 : Logic 𝓤) (mem : Memory → SProp
       move ! (2 ∷ []) $ drop ! $ nothing ! $ owned ! usize (Is usize) (uint_Makes 𝓛 w64) n _ (refl, ok) $ fjoin ! $
       move ! (1 ∷ 0 ∷ []) $ fjoin ! $
       use1 𝓛 (‵ ((B (κ, tt)).own_val made (T'.lowered made ∷ []))) (own_shut 𝓛 (T.the_type α) (T'.the_laws α) (s, (n, tt))) $
-      move ! (0 ∷ 2 ∷ []) $ use2 𝓛 (raw ((MovedOn 𝓛 mem run).pre (to-moved made (T'.lowered made))))
+      move ! (0 ∷ 2 ∷ []) $ use2 𝓛 (raw ((MovedOn 𝓛 mem run).requires (to-moved made (T'.lowered made))))
       (goes_moved made (T'.lowered made)) $ frame ! $ done !
 
   moved-said : (r : Reader) → ent 𝓤 (ensured 𝓛 moved_on.ended (moved_on.clauses 𝓛 mem run) (κ, tt) (made, tt) tt r)
@@ -177,7 +177,7 @@ module _ {M : Type 1} {𝓤 : Ura M} (𝓛 : Logic 𝓤) (mem : Memory → SProp
             (record { fits = ok }, tt),
           ),
         )) $
-        move ! (10 ∷ []) $ use1 𝓛 (raw ((MovedOn 𝓛 mem run).pre (to-moved made (T'.lowered made))) ⊛ ‵ Own) apart $ split ! $
+        move ! (10 ∷ []) $ use1 𝓛 (raw ((MovedOn 𝓛 mem run).requires (to-moved made (T'.lowered made))) ⊛ ‵ Own) apart $ split ! $
         calls_at ! fm (MovedOn 𝓛 mem run) known-moved-on (to-moved made (T'.lowered made)) (and_then ! (load ! (from ! (stop !))
         (look ! 2 refl)) (no_more !)) (λ u.
         use1 𝓛 (later (some (λ (r : Reader). ((‵ (flft κ q) ⊛ ‵ ftrue) ⊛ ‵ ((B (κ, tt)).own_val r (u ∷ []))) ⊛ raw (ensured 𝓛 moved_on.ended
@@ -187,7 +187,7 @@ module _ {M : Type 1} {𝓤 : Ura M} (𝓛 : Logic 𝓤) (mem : Memory → SProp
         -- [what the struct owns; the token; what s owns; _4; …; room for _3; …; _2; …; _1; …; room for _0; …]
         peeks ! (B (κ, tt)) (Is (B (κ, tt))) (shows 𝓛 (B (κ, tt))) r (u ∷ []) (λ is.
         land ! (from ! (stop !)) (init ! 5 refl ((LL.lawful (T.the_type αᵉ) (T'.the_laws αᵉ) 𝓛).typed r _ is).0) $
-        use2 𝓛 (raw ((Next 𝓛 mem run).pre (to-next r u))) (goes-next r u) $
+        use2 𝓛 (raw ((Next 𝓛 mem run).requires (to-next r u))) (goes-next r u) $
         calls_at ! fm (Next 𝓛 mem run) known_next (to-next r u) (and_then ! (load ! (from ! (stop !)) (look ! 4 refl)) (no_more !))
         (λ u'.
         use1 𝓛 (later (some (λ (t : Step). ((‵ (flft κ q) ⊛ ‵ ftrue) ⊛ ‵ ((S.the_row).own_val t (u' ∷ []))) ⊛ raw (ensured 𝓛 next.ended
@@ -229,7 +229,7 @@ after-meets {𝓤 = 𝓤} 𝓛 mem run 𝓣 known-moved-on known_next = walk_Mee
     𝓣.Λ code.function) (WpFn-mono 𝓤 𝓛.H 𝓛.laws 𝓣 code.function)
     (after-walks 𝓛 mem run 𝓣.C 𝓣.Λ (fm_of 𝓤 𝓛.H 𝓛.laws 𝓣) known-moved-on known_next)
 
-pub after-spec : {M : Type 1} → stated.statement M
+pub after_spec : {M : Type 1} → stated.statement M
 unfolding code.routine tables_of
 after-spec 𝓤 𝓛 𝓜 𝓡 =
     entered 𝓤 𝓛.H (triple_of 𝓛 after.signature (after.spec 𝓛 𝓜.mem 𝓡.run))

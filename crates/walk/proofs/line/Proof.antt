@@ -5,13 +5,13 @@ use borrow.Author.Rules.{rules}
 use Rattle.walk.proofs.line.Statement.{statement}
 use Rattle.walk.proofs.line.Tie as tie
 
-returns : tie.Need-returns
+returns : tie.Need-returns-then-number-ne0
 unfolding line_of
-returns c = rw c.refused-line.ensures (omega arith)
+returns c = rw c.refused_line.ensures (omega arith)
 
-returns-2 : tie.Need-returns-2
+returns-2 : tie.Need-returns
 unfolding line_of
-returns-2 c = rw c.block-line.ensures (omega arith)
+returns-2 c = rw c.block_line.ensures (omega arith)
 
-pub line-spec : {M : Type 1} → statement M
-line-spec = tie.close (tie.spec (λ c κs. search rules) returns (λ c κs. search rules) returns-2)
+pub line_spec : {M : Type 1} → statement M
+line_spec = tie.close (tie.spec (λ c κs. search rules) returns (λ c κs. search rules) returns-2)

@@ -4,8 +4,8 @@ use borrow.Author.Rules.{rules}
 use Rattle.walk.proofs.print.Statement.{statement}
 use Rattle.walk.proofs.print.Tie as tie
 
-size : tie.Need-slice-aggregate-write-from
+size : tie.Need-slice_bounds-write_from-end
 size c = search rules
 
-pub print-spec : {M : Type 1} → statement M
-print-spec = tie.close (tie.spec size (λ c κs. omega (arith, size c)) (λ c. search rules))
+pub print_spec : {M : Type 1} → statement M
+print_spec = tie.close (tie.spec size (λ c κs. omega (arith, size c)) (λ c. search rules))

@@ -8,16 +8,16 @@ use borrow.Author.Rules.{rules}
 use Rattle.walk.proofs.run.Statement.{statement}
 use Rattle.walk.proofs.run.Tie as tie
 
-abbrev invariant-loop : tie.invariant-loop
+abbrev invariant-loop : tie.invariant-loop-at
 invariant-loop src samples₀ p₀ s₀ at₀ samples p s at = length samples ≡ 960
 
-abbrev decreases-loop : tie.decreases-loop
+abbrev decreases-loop : tie.decreases-loop-at
 decreases-loop src samples₀ p₀ s₀ at₀ samples p s at = length src - at
 
-mul-from : tie.Need-overflow-mul-from invariant-loop decreases-loop
+mul-from : tie.Need-overflow_mul-from invariant-loop decreases-loop
 mul-from c = omega arith
 
-add_at : tie.Need-overflow-add-at invariant-loop decreases-loop
+add_at : tie.Need-overflow_add-at invariant-loop decreases-loop
 add_at c = omega (arith, mul-from c.before.before.before.before.before.before.before.before)
 
 pub run_spec : {M : Type 1} → statement M

@@ -8,38 +8,38 @@ use Rattle.g722.specs.Words.{to_six}
 use Rattle.words.proofs.to_six.Statement.{statement}
 use Rattle.words.proofs.to_six.Tie as tie
 
-returns : tie.Need-returns
+returns : tie.Need-returns-in-0-to-2
 unfolding to_six
 returns c =
     let w = c.before.before.args.v.number in
-    simp (c.before.if1.true, lt-ltb w 3 (omega arith))
+    simp (c.before.if-v.true, lt-ltb w 3 (omega arith))
 
-returns-2 : tie.Need-returns-2
+returns-2 : tie.Need-returns-in-3-to-34
 unfolding to_six
 returns-2 c =
     let w = c.before.before.before.args.v.number in
-    simp (c.before.before.if1.true, le-ltb w 3 (omega arith))
+    simp (c.before.before.if-v.true, le-ltb w 3 (omega arith))
 
-returns-3 : tie.Need-returns-3
+returns-3 : tie.Need-returns-in_default
 unfolding to_six
 returns-3 c =
     let w = c.before.before.before.args.v.number in
     let none : 34 - w ≡ 0 = omega arith in
-    simp (c.before.before.if1.true, le-ltb w 3 (omega arith), none)
+    simp (c.before.before.if-v.true, le-ltb w 3 (omega arith), none)
 
-returns-4 : tie.Need-returns-4
+returns-4 : tie.Need-returns-in-0-to-62
 unfolding to_six
 returns-4 c =
     let w = c.before.before.args.v.number in
-    simp c.before.if1.false
+    simp c.before.if-v.false
 
-returns-5 : tie.Need-returns-5
+returns-5 : tie.Need-returns-in_default-m
 unfolding to_six
 returns-5 c =
     let w = c.before.before.args.v.number in
     let none : 62 - w ≡ 0 = omega arith in
-    simp (c.before.if1.false, none)
+    simp (c.before.if-v.false, none)
 
-pub to-six-spec : {M : Type 1} → statement M
-to-six-spec =
+pub to_six_spec : {M : Type 1} → statement M
+to_six_spec =
     tie.close (tie.spec (λ c. search rules) (λ c. search rules) returns returns-2 returns-3 (λ c. search rules) returns-4 returns-5)

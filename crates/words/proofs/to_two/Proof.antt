@@ -7,32 +7,32 @@ use Rattle.g722.specs.Words.{to_two}
 use Rattle.words.proofs.to_two.Statement.{statement}
 use Rattle.words.proofs.to_two.Tie as tie
 
-returns : tie.Need-returns
+returns : tie.Need-returns-in-0-to-2
 unfolding to_two
 returns c =
     let w = c.before.before.args.v.number in
-    simp c.before.if1.true
+    simp c.before.if-v.true
 
-returns-2 : tie.Need-returns-2
+returns-2 : tie.Need-returns-in_default
 unfolding to_two
 returns-2 c =
     let w = c.before.before.args.v.number in
     let none : 2 - w ≡ 0 = omega arith in
-    simp (c.before.if1.true, none)
+    simp (c.before.if-v.true, none)
 
-returns-3 : tie.Need-returns-3
+returns-3 : tie.Need-returns-in-0-to-4
 unfolding to_two
 returns-3 c =
     let w = c.before.before.args.v.number in
-    simp c.before.if1.false
+    simp c.before.if-v.false
 
-returns-4 : tie.Need-returns-4
+returns-4 : tie.Need-returns-in_default-m
 unfolding to_two
 returns-4 c =
     let w = c.before.before.args.v.number in
     let none : 4 - w ≡ 0 = omega arith in
-    simp (c.before.if1.false, none)
+    simp (c.before.if-v.false, none)
 
-pub to-two-spec : {M : Type 1} → statement M
-to-two-spec =
+pub to_two_spec : {M : Type 1} → statement M
+to_two_spec =
     tie.close (tie.spec (λ c. search rules) returns returns-2 (λ c. search rules) returns-3 returns-4)

@@ -6,8 +6,8 @@ use Rattle.big_endian.specs.Numbers.{beyond}
 use Rattle.big_endian.proofs.numbers.byte_at.Statement.{statement}
 use Rattle.big_endian.proofs.numbers.byte_at.Tie as tie
 
-returns-2 : tie.Need-returns-2
+returns-2 : tie.Need-returns
 returns-2 c = let a = c.before.args in sym (beyond a.b.now a.i (omega arith))
 
-pub byte-at-spec : {M : Type 1} → statement M
-byte-at-spec = tie.close (tie.spec (λ c. search rules) (λ c. search rules) returns-2)
+pub byte_at_spec : {M : Type 1} → statement M
+byte_at_spec = tie.close (tie.spec (λ c. search rules) (λ c. search rules) returns-2)

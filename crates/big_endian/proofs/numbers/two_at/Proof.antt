@@ -5,14 +5,14 @@ use Rattle.big_endian.specs.Numbers.{two_beyond}
 use Rattle.big_endian.proofs.numbers.two_at.Statement.{statement}
 use Rattle.big_endian.proofs.numbers.two_at.Tie as tie
 
-returns : tie.Need-returns
-returns c = let a = c.before.before.args in sym (two_beyond a.b.now a.i c.if1.true)
+returns : tie.Need-returns-then-b-i
+returns c = let a = c.before.before.args in sym (two_beyond a.b.now a.i c.if-b-i.true)
 
-returns-2 : tie.Need-returns-2
+returns-2 : tie.Need-returns
 returns-2 c = search rules
 
-pub two-at-spec : {M : Type 1} → statement M
-two-at-spec =
+pub two_at_spec : {M : Type 1} → statement M
+two_at_spec =
     tie.close
     (tie.spec returns (λ c κs. tt) (λ c. search rules) (λ c. search rules) (λ c. search rules) (λ c κs. tt) (λ c. search rules)
     (λ c. search rules) returns-2)

@@ -11,5 +11,5 @@ returns : tie.Need-returns
 unfolding high_of
 returns c = ap (λ (n : ℕ). n / 256) (c.word.ensures ∙ ap word_of (to_z-of_z c.before.ranges.x))
 
-pub high-spec : {M : Type 1} → statement M
-high-spec = tie.close (tie.spec (λ c κs. tt) (λ c. search rules) returns)
+pub high_spec : {M : Type 1} → statement M
+high_spec = tie.close (tie.spec (λ c κs. tt) (λ c. search rules) returns)

@@ -13,7 +13,7 @@ use Rattle.big_endian.specs.Bytes.{sample_of}
 use Rattle.big_endian.proofs.samples.sample.Statement.{statement}
 use Rattle.big_endian.proofs.samples.sample.Tie as tie
 
-returns : tie.Need-returns
+returns : tie.Need-returns-then-word-lt32768
 unfolding sample_of
 returns c = rw (lt-ltb (256 * c.before.args.high + c.before.args.low) 32768 (omega arith))
 
@@ -21,21 +21,21 @@ less_fits : (n : ℕ) → 32768 ≤ n → n < 65536 → SFits w16 (to_z w32 n -�
 less_fits n h k = rw (to_z_pos w32 {n = n} (omega arith), lt-ltb n 65536 k) (record { sfits = omega arith })
 
 -- the number less 65536
-less : (c : tie.Else1) → SFits w16 (to_z w32 (256 * c.before.args.high + c.before.args.low) -ℤ pos 65536)
+less : (c : tie.Else-word-lt32768) → SFits w16 (to_z w32 (256 * c.before.args.high + c.before.args.low) -ℤ pos 65536)
 less c = less_fits (256 * c.before.args.high + c.before.args.low) (omega arith) (omega arith)
 
 -- a number of 16 bits, read back from 32 and from 16
 narrowed : {z : ℤ} → SFits w16 z → to_z w16 (of_z w16 (to_z w32 (of_z w32 z))) ≡ z
 narrowed f = simp (to_z-of_z (wider f), to_z-of_z f)
 
-returns-2 : tie.Need-returns-2
+returns-2 : tie.Need-returns
 unfolding sample_of
 returns-2 c =
     let n = 256 * c.before.args.high + c.before.args.low in
     narrowed (less c) ∙ rw (to_z_pos w32 {n = n} (omega arith), le-ltb n 32768 (omega arith))
 
-pub sample-spec : {M : Type 1} → statement M
-sample-spec =
+pub sample_spec : {M : Type 1} → statement M
+sample_spec =
     tie.close
     (tie.spec
     (λ c. search rules)

@@ -23,11 +23,11 @@ unfolding word_of
 above (pos n) e = refl
 above (negsuc n) e = no e
 
-returns : tie.Need-returns
-returns c = let s = c.before.before in cc (to_z-of_z s.ranges.x, below s.args.x (rw (to_z-of_z s.ranges.x) at c.if1.true))
+returns : tie.Need-returns-then-x-lt0
+returns c = let s = c.before.before in cc (to_z-of_z s.ranges.x, below s.args.x (rw (to_z-of_z s.ranges.x) at c.if-x-lt0.true))
 
-returns-2 : tie.Need-returns-2
-returns-2 c = let s = c.before.before in cc (to_z-of_z s.ranges.x, above s.args.x (rw (to_z-of_z s.ranges.x) at c.if1.false))
+returns-2 : tie.Need-returns
+returns-2 c = let s = c.before.before in cc (to_z-of_z s.ranges.x, above s.args.x (rw (to_z-of_z s.ranges.x) at c.if-x-lt0.false))
 
-pub word-spec : {M : Type 1} → statement M
-word-spec = tie.close (tie.spec (λ c κs. tt) (λ c. search rules) returns returns-2)
+pub word_spec : {M : Type 1} → statement M
+word_spec = tie.close (tie.spec (λ c κs. tt) (λ c. search rules) returns returns-2)

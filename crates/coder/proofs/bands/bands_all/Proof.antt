@@ -16,14 +16,14 @@ returns c =
     let n = s.requires.1.1 in
     let a = s.args in
     let low =
-    becomes (coded_block_lem _ _ a.xl.now a.octets.now (is_block _ _ _ s.requires.0 n.0 n.1.1.0)) l.code-band.ensures in
+    becomes (coded_block_lem _ _ a.xl.now a.octets.now (is_block _ _ _ s.requires.0 n.0 n.1.1.0)) l.code_band-l.ensures in
     let high =
     becomes (coded_block_lem _ _ a.xh.now a.words.now (is_block _ _ _ (omega (arith, s.requires)) (omega (arith, s.requires)) n.1.1.1))
-    h.code-band2.ensures in
-    coded_by_band _ _ _ _ (omega (arith, s.requires)) low.answer low.left high.answer high.left p.put-together.ensures
+    h.code_band-h.ensures in
+    coded_by_band _ _ _ _ (omega (arith, s.requires)) low.answer low.left high.answer high.left p.put_together.ensures
 
-pub bands-all-spec : {M : Type 1} → statement M
-bands-all-spec =
+pub bands_all_spec : {M : Type 1} → statement M
+bands_all_spec =
     tie.close
     (tie.spec
     (λ c κs. search rules)

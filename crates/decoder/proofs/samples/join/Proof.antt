@@ -17,50 +17,50 @@ use Rattle.g722.specs.InSteps.{join_3, join_2, join_4, join_0}
 use Rattle.decoder.proofs.samples.join.Statement.{statement}
 use Rattle.decoder.proofs.samples.join.Tie as tie
 
-returns : tie.Need-returns
+returns : tie.Need-returns-then-unfit
 returns c =
     let t = c.before in
-    let unfit = sym t.before.before.misfit.ensures ∙ t.if1.true in
+    let unfit = sym t.before.before.misfit-unfit.ensures ∙ t.if-unfit.true in
     does (join_3 _ _ _ _ (rw unfit refl)) c.refused.ensures refl
 
-returns-2 : tie.Need-returns-2
+returns-2 : tie.Need-returns-then-high-low
 returns-2 c =
     let t = c.before in
     let e = t.before in
-    let fit = sym e.before.before.misfit.ensures ∙ e.if1.false in
-    does (join_3 _ _ _ _ (rw (fit, ne_eqb _ _ t.if2.true) refl)) c.refused2.ensures refl
+    let fit = sym e.before.before.misfit-unfit.ensures ∙ e.if-unfit.false in
+    does (join_3 _ _ _ _ (rw (fit, ne_eqb _ _ t.if-high-low.true) refl)) c.refused-then-high-low.ensures refl
 
 -- past the second test
-fits : (e : tie.Else2)
+fits : (e : tie.Else-high-low)
     → let args = e.before.before.before.before.args in
     let n = length args.low.now in
     (misfit (length args.samples.now) n || not (eqb (length args.high.now) n)) ≡ false
 fits e =
-    let fit = sym e.before.before.before.misfit.ensures ∙ e.before.if1.false in
-    rw (fit, eq-eqb _ _ e.if2.false) refl
+    let fit = sym e.before.before.before.misfit-unfit.ensures ∙ e.before.if-unfit.false in
+    rw (fit, eq-eqb _ _ e.if-high-low.false) refl
 
-returns-3 : tie.Need-returns-3
+returns-3 : tie.Need-returns-then-not-good
 returns-3 c =
     let t = c.before in
-    let broken = sym t.before.before.before.good-decoder.ensures ∙ not-true _ t.if3.true in
-    does (join_2 _ _ _ _ (fits t.before) broken) c.refused3.ensures refl
+    let broken = sym t.before.before.before.good_decoder-good.ensures ∙ not-true _ t.if-not-good.true-raw in
+    does (join_2 _ _ _ _ (fits t.before) broken) c.refused-then-not-good.ensures refl
 
 -- past the third
 module _ (b : tie.After-both) where
-  abbrev e : tie.Else3
+  abbrev e : tie.Else-not-good
   e = b.before.before.before
 
   good : good_decoder e.before.before.before.before.before.args.d ≡ true
-  good = sym e.before.before.before.good-decoder.ensures ∙ not-false _ e.if3.left
+  good = sym e.before.before.before.good_decoder-good.ensures ∙ not-false _ e.if-not-good.left
 
   looked : let args = e.before.before.before.before.before.args in
       b.both.result ≡ (all_in_range args.low.now && all_in_range args.high.now)
-  looked = b.both.ensures ∙ λ i. b.before.before.all-in-range.ensures i && b.before.all-in-range2.ensures i
+  looked = b.both.ensures ∙ λ i. b.before.before.all_in_range.ensures i && b.before.all_in_range-2.ensures i
 
   even : let args = e.before.before.before.before.before.args in length args.high.now ≡ length args.low.now
   even = (matched _ _ _ (fits e.before)).0
 
-returns-4 : tie.Need-returns-4
+returns-4 : tie.Need-returns-then-not-both
 unfolding first_bad_pair
 returns-4 c =
     let l = c.before in
@@ -68,22 +68,22 @@ returns-4 c =
     let t = f.before.before in
     let b = t.before in
     let args = (e b).before.before.before.before.before.args in
-    let bad = some_bad_pair _ _ (even b) (sym (looked b) ∙ not-true _ t.if4.true) in
-    let index = l.lesser.ensures ∙ λ i. min (f.before.first-bad.ensures i) (f.first-bad2.ensures i) in
+    let bad = some_bad_pair _ _ (even b) (sym (looked b) ∙ not-true _ t.if-not-both.true-raw) in
+    let index = l.lesser.ensures ∙ λ i. min (f.before.first_bad.ensures i) (f.first_bad-then-not-both.ensures i) in
     does (join_4 _ _ _ _ (fits (e b).before) (good b) (lt-ltb _ _ bad))
-    (c.refused4.ensures ∙ ap (λ (n : ℕ). record { number = 4; index = n; limited = 0; next = args.d }) index) refl
+    (c.refused-then-not-both.ensures ∙ ap (λ (n : ℕ). record { number = 4; index = n; limited = 0; next = args.d }) index) refl
 
-returns-5 : tie.Need-returns-5
+returns-5 : tie.Need-returns
 unfolding joined
 returns-5 c =
     let r = c.before in
     let n = r.before.before in
     let b = n.before in
-    let clean = none_bad_pair _ _ (even b) (sym (looked b) ∙ not-false _ n.if4.false) in
+    let clean = none_bad_pair _ _ (even b) (sym (looked b) ∙ not-false _ n.if-not-both.false-raw) in
     does (join_0 _ _ _ _ (fits (e b).before) (good b) (le-ltb _ _ clean))
-    r.join-all.ensures.answer r.join-all.ensures.left
+    r.join_all.ensures.answer r.join_all.ensures.left
 
-join-all-requires : tie.Need-join-all-requires
+join-all-requires : tie.Need-join_all-requires
 join-all-requires c κs =
     let n = c.before in
     let b = n.before in
@@ -92,11 +92,11 @@ join-all-requires c κs =
     let high = all_in_range args.high.now in
     let f = fits (e b).before in
     let p = matched _ _ _ f in
-    let clean = sym (looked b) ∙ not-false _ n.if4.false in
+    let clean = sym (looked b) ∙ not-false _ n.if-not-both.false-raw in
     (few_pairs _ _ _ f, (p.0, (p.1, (good b, (left_true low high clean, right_true low high clean)))))
 
-pub join-spec : {M : Type 1} → statement M
-join-spec =
+pub join_spec : {M : Type 1} → statement M
+join_spec =
     tie.close
     (tie.spec
     (λ c κs. tt)

@@ -22,7 +22,7 @@ returns c =
     let whole = fits (omega (arith, s.requires)) (omega (arith, s.requires)) (omega (arith, s.requires)) in
     let range : PairsInRange a.d.past a.low.now a.high.now =
     record { past_rl = good.rl; past_rh = good.rh; lows = n.1.0; highs = n.1.1 } in
-    let q = becomes (join_fits _ _ _ a.samples.now whole range) j.join.ensures in
+    let q = becomes (join_fits _ _ _ a.samples.now whole range) j.join-j.ensures in
     record {
       answer =
           c.done.ensures
@@ -35,8 +35,8 @@ returns c =
       left = q.left;
     }
 
-pub join-block-spec : {M : Type 1} → statement M
-join-block-spec =
+pub join_block_spec : {M : Type 1} → statement M
+join_block_spec =
     tie.close
     (tie.spec
     (λ c κs. tt)

@@ -14,37 +14,37 @@ use Rattle.g722.specs.InSteps.{hear_1, hear_3, hear_2, hear_0}
 use Rattle.decoder.proofs.signals.hear.Statement.{statement}
 use Rattle.decoder.proofs.signals.hear.Tie as tie
 
-returns : tie.Need-returns
+returns : tie.Need-returns-then-told-gt3
 returns c =
     let told = c.before.before.before.before.before.args.told in
     does (hear_1 _ _ _ _ _ (lt-ltb 3 told (omega arith))) c.refused.ensures refl
 
-returns-2 : tie.Need-returns-2
+returns-2 : tie.Need-returns-then-unfit
 returns-2 c =
     let t = c.before in
     let told = t.before.before.before.before.before.args.told in
-    does (hear_3 _ _ _ _ _ (le-ltb 3 told (omega arith)) (sym t.before.before.before.unpaired.ensures ∙ t.if2.true))
-    c.refused2.ensures refl
+    does (hear_3 _ _ _ _ _ (le-ltb 3 told (omega arith)) (sym t.before.before.before.unpaired-unfit.ensures ∙ t.if-unfit.true))
+    c.refused-then-unfit.ensures refl
 
 -- past the second test
-fits : (e : tie.Else2)
+fits : (e : tie.Else-unfit)
     → let args = e.before.before.before.before.before.args in
     unpaired (length args.octets.now) (length args.low.now) (length args.high.now) ≡ false
-fits e = sym e.before.before.before.unpaired.ensures ∙ e.if2.false
+fits e = sym e.before.before.before.unpaired-unfit.ensures ∙ e.if-unfit.false
 
-returns-3 : tie.Need-returns-3
+returns-3 : tie.Need-returns-then-not-good
 returns-3 c =
     let t = c.before in
-    let broken = sym t.before.before.before.good-decoder.ensures ∙ not-true _ t.if3.true in
+    let broken = sym t.before.before.before.good_decoder-good.ensures ∙ not-true _ t.if-not-good.true-raw in
     let told = t.before.before.before.before.before.before.args.told in
     does (hear_2 _ _ _ _ _ (le-ltb 3 told (omega arith)) (fits t.before) broken)
-    c.refused3.ensures refl
+    c.refused-then-not-good.ensures refl
 
 -- past the third
-good : (e : tie.Else3) → good_decoder e.before.before.before.before.before.before.args.d ≡ true
-good e = sym e.before.before.before.good-decoder.ensures ∙ not-false _ e.if3.false
+good : (e : tie.Else-not-good) → good_decoder e.before.before.before.before.before.before.args.d ≡ true
+good e = sym e.before.before.before.good_decoder-good.ensures ∙ not-false _ e.if-not-good.false-raw
 
-returns-4 : tie.Need-returns-4
+returns-4 : tie.Need-returns
 unfolding heard
 returns-4 c =
     let r = c.before.before in
@@ -52,20 +52,20 @@ returns-4 c =
     let e = f.before in
     let args = e.before.before.before.before.before.before.args in
     let octets = args.octets.now in
-    let told = f.in-force.ensures in
+    let told = f.in_force.ensures in
     does (hear_0 _ _ _ _ _ (le-ltb 3 args.told (omega arith)) (fits e.before) (good e))
-    (r.hear-all.ensures.answer ∙ ap (λ (m : ℕ). (heard m args.d octets).answer) told)
-    (r.hear-all.ensures.left ∙ ap (λ (m : ℕ). (heard m args.d octets).left) told)
+    (r.hear_all.ensures.answer ∙ ap (λ (m : ℕ). (heard m args.d octets).answer) told)
+    (r.hear_all.ensures.left ∙ ap (λ (m : ℕ). (heard m args.d octets).left) told)
 
-hear-all-requires : tie.Need-hear-all-requires
+hear-all-requires : tie.Need-hear_all-requires
 hear-all-requires c κs =
     let e = c.before.before.before in
     let f = fits e.before in
     let p = paired _ _ _ f in
     (few_octets _ _ _ f, (p.0, (p.1, good e)))
 
-pub hear-spec : {M : Type 1} → statement M
-hear-spec =
+pub hear_spec : {M : Type 1} → statement M
+hear_spec =
     tie.close
     (tie.spec
     (λ c κs. tt)

@@ -12,29 +12,29 @@ use Rattle.decoder.proofs.signals.hear_block.Statement.{statement}
 use Rattle.decoder.proofs.signals.hear_block.Tie as tie
 
 -- the signals are as many as the octets, so the counts are small
-small_low : (c : tie.After-hear-band2) → length c.before.before.before.hear-band.new.1.1.1.1.0 ≤ 8000
+small_low : (c : tie.After-hear_band-h) → length c.before.before.before.hear_band-l.new.1.1.1.1.0 ≤ 8000
 small_low c =
     let l = c.before.before.before in
-    omega (arith, l.hear-band.auto.1.1.1.1.0, l.before.before.before.before.before.before.requires)
+    omega (arith, l.hear_band-l.auto.1.1.1.1.0, l.before.before.before.before.before.before.requires)
 
-small-high : (c : tie.After-hear-band2) → length c.hear-band2.new.1.1.1.1.0 ≤ 8000
+small-high : (c : tie.After-hear_band-h) → length c.hear_band-h.new.1.1.1.1.0 ≤ 8000
 small-high c =
     let l = c.before.before.before in
-    omega (arith, c.hear-band2.auto.1.1.1.1.0, l.before.before.before.before.before.before.requires)
+    omega (arith, c.hear_band-h.auto.1.1.1.1.0, l.before.before.before.before.before.before.requires)
 
-add-limited : tie.Need-overflow-add-limited
+add-limited : tie.Need-overflow_add-limited
 add-limited c =
     let high = c.before in
     let low = high.before.before.before in
     let h = low.before.before.before in
-    let yls = h.before.before.before.hear-band.new.1.1.1.1.0 in
-    let yhs = h.hear-band2.new.1.1.1.1.0 in
+    let yls = h.before.before.before.hear_band-l.new.1.1.1.1.0 in
+    let yhs = h.hear_band-h.new.1.1.1.1.0 in
     omega (
       arith,
       small_low h,
       small-high h,
-      low.limit-all.ensures.0,
-      high.limit-all2.ensures.0,
+      low.limit_all.ensures.0,
+      high.limit_all-2.ensures.0,
       overloads_most yls,
       overloads_most yhs,
     )
@@ -53,12 +53,12 @@ returns c =
     let low_fits = block (omega (arith, s.requires)) (omega (arith, s.requires)) good.0 in
     let high_fits = block' (omega (arith, s.requires)) (omega (arith, s.requires)) good.1 in
     heard_by_band _ _ _
-    (becomes (heard_block_lem _ _ _ a.octets.now a.low.now low_fits) l.hear-band.ensures)
-    (becomes (heard_block_lem _ _ _ a.octets.now a.high.now high_fits) h.hear-band2.ensures)
-    low.limit-all.ensures high.limit-all2.ensures c.done.ensures
+    (becomes (heard_block_lem _ _ _ a.octets.now a.low.now low_fits) l.hear_band-l.ensures)
+    (becomes (heard_block_lem _ _ _ a.octets.now a.high.now high_fits) h.hear_band-h.ensures)
+    low.limit_all.ensures high.limit_all-2.ensures c.done.ensures
 
-pub hear-block-spec : {M : Type 1} → statement M
-hear-block-spec =
+pub hear_block_spec : {M : Type 1} → statement M
+hear_block_spec =
     tie.close
     (tie.spec
     (λ c κs. tt)

@@ -4,14 +4,14 @@ use native.Mathlib.Omega.{arith}
 use Rattle.desk.proofs.files.close_all.Statement.{statement}
 use Rattle.desk.proofs.files.close_all.Tie as tie
 
-abbrev invariant-loop : tie.invariant-loop
+abbrev invariant-loop : tie.invariant-loop-i
 invariant-loop files i₀ i = i ≤ 8
 
-abbrev decreases-loop : tie.decreases-loop
+abbrev decreases-loop : tie.decreases-loop-i
 decreases-loop files i₀ i = 8 - i
 
-pub close-all-spec : {M : Type 1} → statement M
-close-all-spec =
+pub close_all_spec : {M : Type 1} → statement M
+close_all_spec =
     tie.close
     (tie.spec
     invariant-loop

@@ -5,20 +5,20 @@ use Rattle.desk.proofs.Laws.{taken}
 use Rattle.desk.proofs.files.mix_all.Statement.{statement}
 use Rattle.desk.proofs.files.mix_all.Tie as tie
 
-abbrev invariant-loop : tie.invariant-loop
+abbrev invariant-loop : tie.invariant-loop-more
 invariant-loop modes inputs outputs desk₀ turns₀ more₀ desk turns more = Unit {0}
 
-abbrev decreases-loop : tie.decreases-loop
+abbrev decreases-loop : tie.decreases-loop-more
 decreases-loop modes inputs outputs desk₀ turns₀ more₀ desk turns more = turns
 
-sub-turns : tie.Need-overflow-sub-turns invariant-loop decreases-loop
-sub-turns c = ltb-true 0 _ c.before.before.if1.true
+sub-turns : tie.Need-overflow_sub-turns invariant-loop decreases-loop
+sub-turns c = ltb-true 0 _ c.before.before.if-turns-gt0.true-raw
 
-loop-less : tie.Need-loop-smaller invariant-loop decreases-loop
-loop-less c = taken _ c.before.before.if1.true
+loop-less : tie.Need-loop-more-smaller invariant-loop decreases-loop
+loop-less c = taken _ c.before.before.if-turns-gt0.true-raw
 
-pub mix-all-spec : {M : Type 1} → statement M
-mix-all-spec =
+pub mix_all_spec : {M : Type 1} → statement M
+mix_all_spec =
     tie.close
     (tie.spec
     invariant-loop

@@ -6,14 +6,14 @@ use lib.ListN.{length, length-set}
 use Rattle.desk.proofs.files.open_all.Statement.{statement}
 use Rattle.desk.proofs.files.open_all.Tie as tie
 
-abbrev invariant-loop : tie.invariant-loop
+abbrev invariant-loop : tie.invariant-loop-i
 invariant-loop first new files₀ i₀ i-end files i = (i ≤ length files) × (length files ≡ length files₀)
 
-abbrev decreases-loop : tie.decreases-loop
+abbrev decreases-loop : tie.decreases-loop-i
 decreases-loop first new files₀ i₀ i-end files i = length files₀ - i
 
-pub open-all-spec : {M : Type 1} → statement M
-open-all-spec =
+pub open_all_spec : {M : Type 1} → statement M
+open_all_spec =
     tie.close
     (tie.spec
     invariant-loop

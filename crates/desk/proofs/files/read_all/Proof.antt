@@ -8,17 +8,17 @@ use borrow.Author.Rules.{rules}
 use Rattle.desk.proofs.files.read_all.Statement.{statement}
 use Rattle.desk.proofs.files.read_all.Tie as tie
 
-abbrev invariant-loop : tie.invariant-loop
+abbrev invariant-loop : tie.invariant-loop-i
 invariant-loop files octets₀ least₀ most₀ i₀ octets least most i = (i ≤ length files) × (least ≤ 1000) × (length octets ≡ length octets₀)
 
-abbrev decreases-loop : tie.decreases-loop
+abbrev decreases-loop : tie.decreases-loop-i
 decreases-loop files octets₀ least₀ most₀ i₀ octets least most i = length files - i
 
-loop-again : tie.Need-loop-preserved invariant-loop decreases-loop
-loop-again c = (omega arith, ⊎_elim (λ w. omega arith) (λ w. omega arith) c.before.if2.branch, omega arith)
+loop-again : tie.Need-loop-i-preserved invariant-loop decreases-loop
+loop-again c = (omega arith, ⊎_elim (λ w. omega arith) (λ w. omega arith) c.before.if-n-least.branch, omega arith)
 
-pub read-all-spec : {M : Type 1} → statement M
-read-all-spec =
+pub read_all_spec : {M : Type 1} → statement M
+read_all_spec =
     tie.close
     (tie.spec
     invariant-loop

@@ -9,13 +9,13 @@ use Rattle.desk.proofs.Laws.{part_within}
 use Rattle.desk.proofs.files.run.Statement.{statement}
 use Rattle.desk.proofs.files.run.Tie as tie
 
-slice-aggregate-open-and-mix : tie.Need-slice-aggregate-open-and-mix
+slice-aggregate-open-and-mix : tie.Need-slice_bounds-open_and_mix-end
 slice-aggregate-open-and-mix c = sym (length-take-le _ _ (omega arith))
 
-slice-aggregate-open-and-mix-2 : tie.Need-slice-aggregate-open-and-mix-2
+slice-aggregate-open-and-mix-2 : tie.Need-slice_bounds-open_and_mix-end-2
 slice-aggregate-open-and-mix-2 c = sym (length-take-le _ _ (omega arith))
 
-open-and-mix-requires : tie.Need-open-and-mix-requires
+open-and-mix-requires : tie.Need-open_and_mix-requires
 open-and-mix-requires c κs =
     let n = length c.before.before.before.args.modes.now in
     let room = part_within n 8 (replicate 8 (negsuc 0)) (omega arith) (omega arith) in

@@ -6,14 +6,14 @@ use borrow.Author.Rules.{rules}
 use Rattle.desk.proofs.files.send.Statement.{statement}
 use Rattle.desk.proofs.files.send.Tie as tie
 
-slice-aggregate-mix : tie.Need-slice-aggregate-mix
+slice-aggregate-mix : tie.Need-slice_bounds-mix-end
 slice-aggregate-mix c = sym (length-take-le _ _ (omega arith))
 
-mix-requires : tie.Need-mix-requires
+mix-requires : tie.Need-mix-t-requires
 mix-requires c κs = (omega arith, (omega arith, length-take-le _ _ (omega arith)))
 
-pub send-spec : {M : Type 1} → statement M
-send-spec =
+pub send_spec : {M : Type 1} → statement M
+send_spec =
     tie.close
     (tie.spec
     (λ c. search rules)

@@ -7,26 +7,26 @@ use Rattle.desk.proofs.Laws.{place_in}
 use Rattle.desk.proofs.files.unweave.Statement.{statement}
 use Rattle.desk.proofs.files.unweave.Tie as tie
 
-abbrev invariant-loop : tie.invariant-loop
+abbrev invariant-loop : tie.invariant-loop-i
 invariant-loop octets port ports column₀ i₀ i-end column i = (i ≤ length column) × (length column ≡ length column₀)
 
-abbrev decreases-loop : tie.decreases-loop
+abbrev decreases-loop : tie.decreases-loop-i
 decreases-loop octets port ports column₀ i₀ i-end column i = length column₀ - i
 
-element-copy-out-column : tie.Need-element-copy-out-column invariant-loop decreases-loop
+element-copy-out-column : tie.Need-bounds-octets-i invariant-loop decreases-loop
 element-copy-out-column c = place_in _ _ _ (omega arith) (omega arith) (omega arith)
 
-mul-column : tie.Need-overflow-mul-column invariant-loop decreases-loop
+mul-column : tie.Need-overflow_mul-column invariant-loop decreases-loop
 mul-column c = omega (arith, element-copy-out-column c)
 
-add-column : tie.Need-overflow-add-column invariant-loop decreases-loop
+add-column : tie.Need-overflow_add-column invariant-loop decreases-loop
 add-column c = omega (arith, element-copy-out-column c)
 
-loop-again : tie.Need-loop-preserved invariant-loop decreases-loop
+loop-again : tie.Need-loop-i-preserved invariant-loop decreases-loop
 loop-again c = simp length-set (omega arith, omega arith)
 
-pub unweave-spec : {M : Type 1} → statement M
-unweave-spec =
+pub unweave_spec : {M : Type 1} → statement M
+unweave_spec =
     tie.close
     (tie.spec
     invariant-loop

@@ -7,19 +7,19 @@ use Rattle.desk.proofs.Laws.{place_in}
 use Rattle.desk.proofs.files.weave.Statement.{statement}
 use Rattle.desk.proofs.files.weave.Tie as tie
 
-abbrev invariant-loop : tie.invariant-loop
+abbrev invariant-loop : tie.invariant-loop-i
 invariant-loop column port ports octets₀ i₀ i-end octets i = (i ≤ length column) × (length octets ≡ length octets₀)
 
-abbrev decreases-loop : tie.decreases-loop
+abbrev decreases-loop : tie.decreases-loop-i
 decreases-loop column port ports octets₀ i₀ i-end octets i = length column - i
 
 -- the octet's place
-place : (c : tie.After-shared-slice-known invariant-loop decreases-loop)
-    → c.before.before.loop.i * c.before.before.before.args.ports + c.before.before.before.args.port < 8000
+place : (c : tie.After-shared_slice_known-1 invariant-loop decreases-loop)
+    → c.before.before.loop-i.i * c.before.before.before.args.ports + c.before.before.before.args.port < 8000
 place c = place_in _ _ _ (omega arith) (omega arith) (omega arith)
 
-pub weave-spec : {M : Type 1} → statement M
-weave-spec =
+pub weave_spec : {M : Type 1} → statement M
+weave_spec =
     tie.close
     (tie.spec
     invariant-loop
@@ -32,5 +32,5 @@ weave-spec =
     (λ c. omega arith)
     (λ c. omega arith)
     (λ c. (omega arith, simp length-set (omega arith)))
-    (λ c. c.before.loop.invariant.1)
+    (λ c. c.before.loop-i.invariant.1)
     (λ c. tt))

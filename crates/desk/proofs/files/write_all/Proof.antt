@@ -6,14 +6,14 @@ use borrow.Author.Rules.{rules}
 use Rattle.desk.proofs.files.write_all.Statement.{statement}
 use Rattle.desk.proofs.files.write_all.Tie as tie
 
-abbrev invariant-loop : tie.invariant-loop
+abbrev invariant-loop : tie.invariant-loop-i
 invariant-loop files octets n i₀ i-end i = i ≤ length files
 
-abbrev decreases-loop : tie.decreases-loop
+abbrev decreases-loop : tie.decreases-loop-i
 decreases-loop files octets n i₀ i-end i = length files - i
 
-pub write-all-spec : {M : Type 1} → statement M
-write-all-spec =
+pub write_all_spec : {M : Type 1} → statement M
+write_all_spec =
     tie.close
     (tie.spec
     invariant-loop

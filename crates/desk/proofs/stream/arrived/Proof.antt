@@ -12,40 +12,40 @@ use Rattle.desk.proofs.stream.arrived.Statement.{statement}
 use Rattle.desk.proofs.stream.arrived.Tie as tie
 
 -- the end of the last tick
-module _ (e : tie.Else2) where
-  abbrev r : tie.After-read
+module _ (e : tie.Else-over-eq0) where
+  abbrev r : tie.After-read-got
   r = e.before.before.before.before.before.before
 
   abbrev s : tie.Start
   s = r.before.before.before
 
   abbrev n : ℕ
-  n = e.before.count.result
+  n = e.before.count-n.result
 
   abbrev to : ℕ
   to = n - n % s.args.ports + s.args.ports
 
   abbrev octets : List ℕ
-  octets = r.read.last.1.0
+  octets = r.read-got.last.1.0
 
   size : length octets ≡ 1000 * s.args.ports
-  size = r.read.kept.1.0 ∙ s.pre.1
+  size = r.read-got.kept.1.0 ∙ s.requires.1
 
   behind : n ≤ to
-  behind = end_behind n s.args.ports s.pre.0
+  behind = end_behind n s.args.ports s.requires.0
 
   within : to ≤ length octets
-  within = end_in n s.args.ports (length octets) size s.pre.0 e.if2.left e.before.count.ensures.0.0
+  within = end_in n s.args.ports (length octets) size s.requires.0 e.if-over-eq0.left e.before.count-n.ensures.0.0
 
-returns-3 : tie.Need-returns-3
+returns-3 : tie.Need-returns
 returns-3 c =
     let f = c.before.before in
     let e = f.before.before in
     let part = mid_len {X = ℕ} (n e) (to e) (octets e) (within e) in
-    omega (arith, f.read-full.ensures.0, f.read-full.auto.1.0, part, behind e, within e, size e)
+    omega (arith, f.read_full.ensures.0, f.read_full.auto.1.0, part, behind e, within e, size e)
 
-pub arrived-spec : {M : Type 1} → statement M
-arrived-spec =
+pub arrived_spec : {M : Type 1} → statement M
+arrived_spec =
     tie.close
     (tie.spec
     (λ c κs. search rules)

@@ -9,19 +9,19 @@ use Rattle.desk.proofs.Laws.{lent}
 use Rattle.desk.proofs.stream.turn.Statement.{statement}
 use Rattle.desk.proofs.stream.turn.Tie as tie
 
-slice-aggregate-arrived : tie.Need-slice-aggregate-arrived
+slice-aggregate-arrived : tie.Need-slice_bounds-arrived-end
 slice-aggregate-arrived c = sym (length-take-le _ _ (omega arith))
 
-arrived-requires : tie.Need-arrived-requires
+arrived-requires : tie.Need-arrived-n-requires
 arrived-requires c κs = (omega arith, length-take-le _ _ (omega arith))
 
-array-share-prefix-octets : tie.Need-array-share-prefix-octets
+array-share-prefix-octets : tie.Need-slice_bounds-octets-end-2
 array-share-prefix-octets c =
-    let a = c.before.before.arrived in
+    let a = c.before.before.arrived-n in
     let most = 1000 * length c.before.before.before.before.before.args.modes.now in
     lent _ most (replicate 8000 0) a.new.0 a.auto.0 (omega arith)
 
-slice-aggregate-send : tie.Need-slice-aggregate-send
+slice-aggregate-send : tie.Need-slice_bounds-send-end
 slice-aggregate-send c = sym (length-take-le _ _ (array-share-prefix-octets c.before))
 
 send-requires : tie.Need-send-requires

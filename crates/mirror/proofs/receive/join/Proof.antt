@@ -12,19 +12,19 @@ use Rattle.mirror.proofs.Joining.{join_whole}
 use Rattle.mirror.proofs.receive.join.Statement.{statement}
 use Rattle.mirror.proofs.receive.join.Tie as tie
 
-returns : tie.Need-returns
+returns : tie.Need-returns-then-not-fits
 unfolding join_block
 returns c =
-    let e = sym c.before.fits2.ensures ∙ not-true _ c.if1.true in
+    let e = sym c.before.fits2.ensures ∙ not-true _ c.if-not-fits.true-raw in
     record { answer = rw e; left = rw e }
 
 -- past the test
-module _ (e : tie.Else1) where
+module _ (e : tie.Else-not-fits) where
   abbrev start : tie.Start
   start = e.before.before
 
   fit : block_fits (length start.args.samples.now) (length start.args.low.now) (length start.args.high.now) ≡ true
-  fit = sym e.before.fits2.ensures ∙ not-false _ e.if1.left
+  fit = sym e.before.fits2.ensures ∙ not-false _ e.if-not-fits.left
 
   rl-long : length start.args.past.rl ≡ 11
   rl-long = search rules
@@ -32,13 +32,13 @@ module _ (e : tie.Else1) where
   rh-long : length start.args.past.rh ≡ 11
   rh-long = search rules
 
-abbrev tested : tie.After-cross → tie.Else1
+abbrev tested : tie.After-cross → tie.Else-not-fits
 tested x = x.before.before.before.before.before.before.before
 
-abbrev first : tie.After-cross2 → tie.After-cross
+abbrev first : tie.After-cross-2 → tie.After-cross
 first y = y.before.before.before.before.before
 
-returns-2 : tie.Need-returns-2
+returns-2 : tie.Need-returns
 returns-2 c =
     let h = c.before in
     let j = h.before.before in
@@ -46,11 +46,11 @@ returns-2 c =
     let x = first y in
     let e = tested x in
     let d = join_whole _ _ _ (rl-long e) (rh-long e) (fit_lengths _ _ _ (fit e)).2 x.cross.ensures.0 x.cross.ensures.1
-    y.cross2.ensures.0 y.cross2.ensures.1 j.join-rows.ensures h.last.ensures c.last2.ensures in
+    y.cross-2.ensures.0 y.cross-2.ensures.1 j.join_rows-limited.ensures h.last.ensures c.last-2.ensures in
     does (join_runs _ _ _ _ (fit e)) d.answer d.left
 
-pub join-spec : {M : Type 1} → statement M
-join-spec =
+pub join_spec : {M : Type 1} → statement M
+join_spec =
     tie.close
     (tie.spec
     (λ c κs. search rules)

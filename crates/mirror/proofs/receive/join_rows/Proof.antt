@@ -13,55 +13,55 @@ use Rattle.mirror.proofs.Loops.{Paired, paired_none, paired_more, paired_all, Co
 use Rattle.mirror.proofs.receive.join_rows.Statement.{statement}
 use Rattle.mirror.proofs.receive.join_rows.Tie as tie
 
-abbrev invariant-loop : tie.invariant-loop
+abbrev invariant-loop : tie.invariant-loop-i
 invariant-loop xd xs n samples₀ limited₀ i₀ samples limited i =
     (i ≤ n)
     × Paired (λ (k : ℕ). limit (first_at xd k)) (λ (k : ℕ). limit (second_at xs k)) n samples i
     × Counting (first_at xd) (second_at xs) n limited i
 
-abbrev decreases-loop : tie.decreases-loop
+abbrev decreases-loop : tie.decreases-loop-i
 decreases-loop xd xs n samples₀ limited₀ i₀ samples limited i = n - i
 
 -- the two samples
-module _ (c : tie.After-limit2 invariant-loop decreases-loop) where
-  abbrev loop : tie.At-loop invariant-loop decreases-loop
+module _ (c : tie.After-limit-second invariant-loop decreases-loop) where
+  abbrev loop : tie.At-loop-i invariant-loop decreases-loop
   loop = c.before.before.before.before.before
 
   abbrev first : Limited
-  first = limited (first_at loop.before.args.xd.now loop.loop.i)
+  first = limited (first_at loop.before.args.xd.now loop.loop-i.i)
 
   abbrev second : Limited
-  second = limited (second_at loop.before.args.xs.now loop.loop.i)
+  second = limited (second_at loop.before.args.xs.now loop.loop-i.i)
 
-  first≡ : c.before.before.limit.result ≡ first
+  first≡ : c.before.before.limit-first.result ≡ first
   unfolding first_at
   first≡ =
       let t = c.before.before.before.taps in
-      c.before.before.limit.ensures ∙ ap limited (shifted 4096 t.type-inv t.ensures.0)
+      c.before.before.limit-first.ensures ∙ ap limited (shifted 4096 t.type_inv t.ensures.0)
 
-  second≡ : c.limit2.result ≡ second
+  second≡ : c.limit-second.result ≡ second
   unfolding second_at
-  second≡ = let t = c.before.taps2 in c.limit2.ensures ∙ ap limited (shifted 4096 t.type-inv t.ensures.0)
+  second≡ = let t = c.before.taps-in-loop-i in c.limit-second.ensures ∙ ap limited (shifted 4096 t.type_inv t.ensures.0)
 
-module _ (c : tie.After-changes invariant-loop decreases-loop) where
-  abbrev pair : tie.After-limit2 invariant-loop decreases-loop
+module _ (c : tie.After-changes-limited invariant-loop decreases-loop) where
+  abbrev pair : tie.After-limit-second invariant-loop decreases-loop
   pair = c.before.before.before
 
-  changes≡ : c.changes.result ≡ changes (first pair) (second pair)
-  changes≡ = c.changes.ensures ∙ λ j. changes (first≡ pair j) (second≡ pair j)
+  changes≡ : c.changes-limited.result ≡ changes (first pair) (second pair)
+  changes≡ = c.changes-limited.ensures ∙ λ j. changes (first≡ pair j) (second≡ pair j)
 
-loop-again : tie.Need-loop-preserved invariant-loop decreases-loop
+loop-again : tie.Need-loop-i-preserved invariant-loop decreases-loop
 unfolding limited
 loop-again c =
     let p = pair c in
-    let v = (loop p).loop.inv in
-    let x = back16 _ c.before.before.struct_told.given.0.1 ∙ ap (λ (t : Limited). t.value) (first≡ p) in
-    let y = back16 _ c.before.struct-told2.given.0.1 ∙ ap (λ (t : Limited). t.value) (second≡ p) in
+    let v = (loop p).loop-i.invariant in
+    let x = back16 _ c.before.before.struct_told-1.given.0.1 ∙ ap (λ (t : Limited). t.value) (first≡ p) in
+    let y = back16 _ c.before.struct_told-in-loop-i-1.given.0.1 ∙ ap (λ (t : Limited). t.value) (second≡ p) in
     (omega arith, paired_more _ _ _ v.1 (omega arith) x y, counted_more _ _ _ v.2 (omega arith) (changes≡ c))
 
 returns : tie.Need-returns invariant-loop decreases-loop
 returns c =
-    let v = c.before.loop.invariant in
+    let v = c.before.loop-i.invariant in
     record { answer = counted_all _ _ _ v.2 (omega arith); left = paired_all _ _ _ v.1 (omega arith) }
 
 pub join_rows_spec : {M : Type 1} → statement M
@@ -77,15 +77,15 @@ join_rows_spec =
     (λ c κs. tt)
     (λ c. omega arith)
     (λ c. omega arith)
-    (λ c. omega (arith, (loop c.before.before).loop.inv.1.long))
+    (λ c. omega (arith, (loop c.before.before).loop-i.invariant.1.long))
     (λ c. omega arith)
     (λ c. omega arith)
     (λ c. omega arith)
-    (λ c. rw length-set (omega (arith, (loop c.before.before).loop.inv.1.long)))
+    (λ c. rw length-set (omega (arith, (loop c.before.before).loop-i.invariant.1.long)))
     (λ c κs. tt)
-    (λ c. omega (arith, room_for_two _ _ (loop (pair c)).loop.inv.2 (omega arith) c.changes.ensures))
+    (λ c. omega (arith, room_for_two _ _ (loop (pair c)).loop-i.invariant.2 (omega arith) c.changes-limited.ensures))
     (λ c. omega arith)
     (λ c. omega arith)
     loop-again
-    (λ c. omega (arith, c.before.loop.invariant.1.long))
+    (λ c. omega (arith, c.before.loop-i.invariant.1.long))
     returns)

@@ -13,41 +13,41 @@ use Rattle.mirror.proofs.Splitting.{split_whole}
 use Rattle.mirror.proofs.transmit.split.Statement.{statement}
 use Rattle.mirror.proofs.transmit.split.Tie as tie
 
-returns : tie.Need-returns
+returns : tie.Need-returns-then-not-fits
 unfolding split_block
 returns c =
-    let e = sym c.before.fits2.ensures ∙ not-true _ c.if1.true in
+    let e = sym c.before.fits2.ensures ∙ not-true _ c.if-not-fits.true-raw in
     record { answer = rw e; left = rw e }
 
 -- past the test
-module _ (e : tie.Else1) where
+module _ (e : tie.Else-not-fits) where
   abbrev start : tie.Start
   start = e.before.before
 
   fit : block_fits (length start.args.samples.now) (length start.args.low.now) (length start.args.high.now) ≡ true
-  fit = sym e.before.fits2.ensures ∙ not-false _ e.if1.left
+  fit = sym e.before.fits2.ensures ∙ not-false _ e.if-not-fits.left
 
-  past-long : length start.args.t1 ≡ 22
+  past-long : length start.args.past ≡ 22
   past-long = search rules
 
-abbrev tested : tie.After-deal → tie.Else1
+abbrev tested : tie.After-deal → tie.Else-not-fits
 tested d = d.before.before.before
 
-abbrev first : tie.After-deal2 → tie.After-deal
+abbrev first : tie.After-deal-2 → tie.After-deal
 first o = o.before.before.before.before
 
-returns-2 : tie.Need-returns-2
+returns-2 : tie.Need-returns
 returns-2 c =
     let r = c.before.before.before.before.before in
     let o = r.before.before.before.before.before.before in
     let e = first o in
     let t = tested e in
     let n = fit_lengths _ _ _ (fit t) in
-    let d = split_whole _ _ _ (past-long t) n.1 e.deal.ensures o.deal2.ensures r.split_rows.ensures c.kept.ensures in
+    let d = split_whole _ _ _ (past-long t) n.1 e.deal.ensures o.deal-2.ensures r.split_rows-limited.ensures c.kept.ensures in
     does (split_fits _ _ _ _ (fit t)) d.answer d.left
 
-pub split-spec : {M : Type 1} → statement M
-split-spec =
+pub split_spec : {M : Type 1} → statement M
+split_spec =
     tie.close
     (tie.spec
     (λ c κs. search rules)

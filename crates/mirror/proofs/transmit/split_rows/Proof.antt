@@ -7,7 +7,7 @@ use lib.ListN.{length}
 use mir.Syntax.{w32}
 use mir.Val.{to_z, of_z}
 use mir.Facts.{to_z-of_z}
-use Rattle.laws.specs.Back.{back16, got32}
+use Rattle.laws.specs.Back.{back16, back32}
 use Rattle.laws.specs.Size.{shr_fits}
 use Rattle.g722.specs.Arithmetic.{limit, limited, changes}
 use Rattle.g722.specs.declared.Limited.{Limited}
@@ -18,7 +18,7 @@ use Rattle.mirror.proofs.Loops.{Stored, stored_none, stored_more, stored_all, Co
 use Rattle.mirror.proofs.transmit.split_rows.Statement.{statement}
 use Rattle.mirror.proofs.transmit.split_rows.Tie as tie
 
-abbrev invariant-loop : tie.invariant-loop
+abbrev invariant-loop : tie.invariant-loop-i
 invariant-loop even odd low₀ high₀ limited₀ i₀ i-end low high limited i =
     (i ≤ i-end)
     × (i-end ≡ length low₀)
@@ -26,23 +26,23 @@ invariant-loop even odd low₀ high₀ limited₀ i₀ i-end low high limited i 
     × Stored (λ (k : ℕ). limit (high_at even odd k)) (length low₀) high i
     × Counting (low_at even odd) (high_at even odd) (length low₀) limited i
 
-abbrev decreases-loop : tie.decreases-loop
+abbrev decreases-loop : tie.decreases-loop-i
 decreases-loop even odd low₀ high₀ limited₀ i₀ i-end low high limited i = i-end - i
 
 -- the two sums
-module _ (c : tie.After-taps2 invariant-loop decreases-loop) where
-  abbrev loop : tie.At-loop invariant-loop decreases-loop
+module _ (c : tie.After-taps-xb invariant-loop decreases-loop) where
+  abbrev loop : tie.At-loop-i invariant-loop decreases-loop
   loop = c.before.before.before
 
-  a : Read (6482 * 32768) (to_z w32 (of_z w32 c.before.taps.result)) (taps_at 0 (nth loop.before.args.odd.now) loop.loop.i)
-  a = let t = c.before.taps in record { is = got32 t ∙ t.ensures.0; small = rw t.ensures.0 at t.ensures.1 }
+  a : Read (6482 * 32768) (to_z w32 (of_z w32 c.before.taps-xa.result)) (taps_at 0 (nth loop.before.args.odd.now) loop.loop-i.i)
+  a = let t = c.before.taps-xa in record { is = back32 t.result t.type_inv ∙ t.ensures.0; small = rw t.ensures.0 at t.ensures.1 }
 
-  b : Read (6482 * 32768) (to_z w32 (of_z w32 c.taps2.result)) (taps_at 1 (nth loop.before.args.even.now) loop.loop.i)
-  b = let t = c.taps2 in record { is = got32 t ∙ t.ensures.0; small = rw t.ensures.0 at t.ensures.1 }
+  b : Read (6482 * 32768) (to_z w32 (of_z w32 c.taps-xb.result)) (taps_at 1 (nth loop.before.args.even.now) loop.loop-i.i)
+  b = let t = c.taps-xb in record { is = back32 t.result t.type_inv ∙ t.ensures.0; small = rw t.ensures.0 at t.ensures.1 }
 
 -- the two signals
-module _ (c : tie.After-limit2 invariant-loop decreases-loop) where
-  abbrev sums : tie.After-taps2 invariant-loop decreases-loop
+module _ (c : tie.After-limit-xh invariant-loop decreases-loop) where
+  abbrev sums : tie.After-taps-xb invariant-loop decreases-loop
   sums = c.before.before
 
   abbrev xl : ℕ → Limited
@@ -51,35 +51,35 @@ module _ (c : tie.After-limit2 invariant-loop decreases-loop) where
   abbrev xh : ℕ → Limited
   xh i = limited (high_at (loop sums).before.args.even.now (loop sums).before.args.odd.now i)
 
-  low≡ : c.before.limit.result ≡ xl (loop sums).loop.i
+  low≡ : c.before.limit-xl.result ≡ xl (loop sums).loop-i.i
   unfolding low_at
   low≡ =
       let p = plus_fits (a sums) (b sums) (lit< tt) in
-      c.before.limit.ensures ∙ rw (to_z-of_z p, to_z-of_z (shr_fits 8192 p), (a sums).is, (b sums).is)
+      c.before.limit-xl.ensures ∙ rw (to_z-of_z p, to_z-of_z (shr_fits 8192 p), (a sums).is, (b sums).is)
 
-  high≡ : c.limit2.result ≡ xh (loop sums).loop.i
+  high≡ : c.limit-xh.result ≡ xh (loop sums).loop-i.i
   unfolding high_at
   high≡ =
       let m = less_fits (a sums) (b sums) (lit< tt) in
-      c.limit2.ensures ∙ rw (to_z-of_z m, to_z-of_z (shr_fits 8192 m), (a sums).is, (b sums).is)
+      c.limit-xh.ensures ∙ rw (to_z-of_z m, to_z-of_z (shr_fits 8192 m), (a sums).is, (b sums).is)
 
-module _ (c : tie.After-changes invariant-loop decreases-loop) where
-  abbrev signals : tie.After-limit2 invariant-loop decreases-loop
+module _ (c : tie.After-changes-limited invariant-loop decreases-loop) where
+  abbrev signals : tie.After-limit-xh invariant-loop decreases-loop
   signals = c.before.before.before
 
-  abbrev at : tie.At-loop invariant-loop decreases-loop
+  abbrev at : tie.At-loop-i invariant-loop decreases-loop
   at = loop (sums signals)
 
-  changes≡ : c.changes.result ≡ changes (xl signals at.loop.i) (xh signals at.loop.i)
-  changes≡ = c.changes.ensures ∙ λ j. changes (low≡ signals j) (high≡ signals j)
+  changes≡ : c.changes-limited.result ≡ changes (xl signals at.loop-i.i) (xh signals at.loop-i.i)
+  changes≡ = c.changes-limited.ensures ∙ λ j. changes (low≡ signals j) (high≡ signals j)
 
-loop-again : tie.Need-loop-preserved invariant-loop decreases-loop
+loop-again : tie.Need-loop-i-preserved invariant-loop decreases-loop
 unfolding limited
 loop-again c =
     let s = signals c in
-    let v = (at c).loop.invariant in
-    let low = back16 _ c.before.before.struct_told.given.0.1 ∙ ap (λ (t : Limited). t.value) (low≡ s) in
-    let high = back16 _ c.before.struct-told2.given.0.1 ∙ ap (λ (t : Limited). t.value) (high≡ s) in (
+    let v = (at c).loop-i.invariant in
+    let low = back16 _ c.before.before.struct_told-1.given.0.1 ∙ ap (λ (t : Limited). t.value) (low≡ s) in
+    let high = back16 _ c.before.struct_told-in-loop-i-1.given.0.1 ∙ ap (λ (t : Limited). t.value) (high≡ s) in (
       omega arith,
       refl,
       stored_more _ _ v.2 (omega arith) low,
@@ -89,7 +89,7 @@ loop-again c =
 
 returns : tie.Need-returns invariant-loop decreases-loop
 returns c =
-    let v = c.before.loop.invariant in
+    let v = c.before.loop-i.invariant in
     let low = stored_all _ _ v.2 (omega arith) in
     let high = stored_all _ _ v.3 (omega arith) in
     record { answer = counted_all _ _ _ v.4 (omega arith); left = λ j. (low j, high j) }
@@ -108,14 +108,14 @@ split_rows_spec =
     (λ c. less_fits (a c.before) (b c.before) (omega arith))
     (λ c κs. tt)
     (λ c. omega arith)
-    (λ c. omega (arith, (loop c.before.before.before.before).loop.inv.2.long))
+    (λ c. omega (arith, (loop c.before.before.before.before).loop-i.invariant.2.long))
     (λ c. omega arith)
-    (λ c. omega (arith, (loop c.before.before.before.before).loop.inv.3.long))
+    (λ c. omega (arith, (loop c.before.before.before.before).loop-i.invariant.3.long))
     (λ c κs. tt)
-    (λ c. omega (arith, room_for_two _ _ (at c).loop.invariant.4 (omega arith) c.changes.ensures))
+    (λ c. omega (arith, room_for_two _ _ (at c).loop-i.invariant.4 (omega arith) c.changes-limited.ensures))
     (λ c. omega arith)
     (λ c. omega arith)
     loop-again
-    (λ c. c.before.loop.invariant.2.long)
-    (λ c. omega (arith, c.before.loop.invariant.3.long))
+    (λ c. c.before.loop-i.invariant.2.long)
+    (λ c. omega (arith, c.before.loop-i.invariant.3.long))
     returns)

@@ -11,10 +11,10 @@ use Rattle.conference.specs.Tick.{any_above}
 use Rattle.mixer.proofs.check.any_above.Statement.{statement}
 use Rattle.mixer.proofs.check.any_above.Tie as tie
 
-abbrev invariant-loop : tie.invariant-loop
+abbrev invariant-loop : tie.invariant-loop-i
 invariant-loop modes i₀ i-end i = (i ≤ i-end) × (i-end ≡ length modes) × (any_above (drop i modes) ≡ any_above modes)
 
-abbrev decreases-loop : tie.decreases-loop
+abbrev decreases-loop : tie.decreases-loop-i
 decreases-loop modes i₀ i-end i = i-end - i
 
 found : (modes : List ℕ) (i : ℕ) → i < length modes → 3 < get_or modes i 0 → any_above (drop i modes) ≡ true
@@ -29,25 +29,25 @@ none : (modes : List ℕ) (i : ℕ) → length modes ≤ i → any_above (drop i
 unfolding any_above
 none modes i h = rw (drop_of_length-le modes h) refl
 
-returns : tie.Need-returns invariant-loop decreases-loop
+returns : tie.Need-returns-then-modes-i-gt3 invariant-loop decreases-loop
 returns c =
     let l = c.before.before.before in
     let modes = l.before.args.modes.now in
-    sym (found modes l.loop.i (omega arith) (omega arith)) ∙ l.loop.invariant.2
+    sym (found modes l.loop-i.i (omega arith) (omega arith)) ∙ l.loop-i.invariant.2
 
-loop-again : tie.Need-loop-preserved invariant-loop decreases-loop
+loop-again : tie.Need-loop-i-preserved invariant-loop decreases-loop
 loop-again c =
     let l = c.before.before.before in
     let modes = l.before.args.modes.now in
-    (omega arith, l.loop.invariant.1, sym (passed modes l.loop.i (omega arith) (omega arith)) ∙ l.loop.invariant.2)
+    (omega arith, l.loop-i.invariant.1, sym (passed modes l.loop-i.i (omega arith) (omega arith)) ∙ l.loop-i.invariant.2)
 
-returns-2 : tie.Need-returns-2 invariant-loop decreases-loop
+returns-2 : tie.Need-returns invariant-loop decreases-loop
 returns-2 c =
     let l = c.before in
-    sym (none l.before.args.modes.now l.loop.i (omega arith)) ∙ l.loop.invariant.2
+    sym (none l.before.args.modes.now l.loop-i.i (omega arith)) ∙ l.loop-i.invariant.2
 
-pub any-above-spec : {M : Type 1} → statement M
-any-above-spec =
+pub any_above_spec : {M : Type 1} → statement M
+any_above_spec =
     tie.close
     (tie.spec
     invariant-loop

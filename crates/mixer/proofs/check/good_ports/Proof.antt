@@ -21,14 +21,14 @@ use Rattle.mixer.proofs.check.good_ports.Tie as tie
 abbrev row : ℕ → List Coder → List Decoder → List (Coder × Decoder)
 row n coders decoders = take n (zip coders decoders)
 
-abbrev invariant-loop : tie.invariant-loop
+abbrev invariant-loop : tie.invariant-loop-i
 invariant-loop ports n coders decoders ok₀ i₀ ok i =
     (i ≤ n)
     × (length coders ≡ 8)
     × (length decoders ≡ 8)
     × ((ok && all_good good_port (drop i (row n coders decoders))) ≡ all_good good_port (row n coders decoders))
 
-abbrev decreases-loop : tie.decreases-loop
+abbrev decreases-loop : tie.decreases-loop-i
 decreases-loop ports n coders decoders ok₀ i₀ ok i = n - i
 
 module _ (cs : List Coder) (ds : List Decoder) (n : ℕ) (l : length cs ≡ 8) (m : length ds ≡ 8) (h : n ≤ 8) where
@@ -55,7 +55,7 @@ used {A} xs n h =
     (λ e. let m : min n 8 ≡ n = omega (arith, ltb-true n 8 e) in ap (λ (k : ℕ). take k xs) m)
     (λ e. let m = ltb-false n 8 e in take_all (min n 8) xs (omega arith) ∙ sym (take_all n xs (omega arith)))
 
-loop-holds : tie.Need-loop-init invariant-loop decreases-loop
+loop-holds : tie.Need-loop-i-init invariant-loop decreases-loop
 loop-holds c =
     let s = c.before.before.before.before in
     let fields = s.well-formed.0.1.1 in
@@ -63,23 +63,23 @@ loop-holds c =
     let decoders = sym (length-map s.args.desk.decoders _) ∙ fields.1.1.0.1.0.1 in
     (omega arith, coders, decoders, refl)
 
-loop-again : tie.Need-loop-preserved invariant-loop decreases-loop
+loop-again : tie.Need-loop-i-preserved invariant-loop decreases-loop
 unfolding good_port
 loop-again c =
     let p = c.before in
     let d = p.before in
     let k = d.before in
     let l = k.before.before.before.before in
-    let n = l.before.before.before.lesser in
+    let n = l.before.before.before.lesser-n in
     let desk = l.before.before.before.before.before.args.desk in
-    let v = l.loop.invariant in
-    let e = c.both2.ensures ∙ λ j. l.loop.ok && (p.both.ensures ∙ λ q. k.good-coder.ensures q && d.good-decoder.ensures q) j in
+    let v = l.loop-i.invariant in
+    let e = c.both-ok.ensures ∙ λ j. l.loop-i.ok && (p.both.ensures ∙ λ q. k.good_coder.ensures q && d.good_decoder.ensures q) j in
     let row = row n.result desk.coders desk.decoders in (
       omega arith,
       v.1,
       v.2,
-      ap (λ (t : Bool). t && all_good good_port (drop (l.loop.i + 1) row)) e
-          ∙ turn desk.coders desk.decoders n.result v.1 v.2 (omega arith) l.loop.ok l.loop.i _ _ (omega arith)
+      ap (λ (t : Bool). t && all_good good_port (drop (l.loop-i.i + 1) row)) e
+          ∙ turn desk.coders desk.decoders n.result v.1 v.2 (omega arith) l.loop-i.ok l.loop-i.i _ _ (omega arith)
           ∙ v.3,
     )
 
@@ -87,17 +87,17 @@ returns : tie.Need-returns invariant-loop decreases-loop
 unfolding good_ports
 returns c =
     let l = c.before in
-    let n = l.before.before.before.lesser in
+    let n = l.before.before.before.lesser-n in
     let desk = l.before.before.before.before.before.args.desk in
-    let v = l.loop.invariant in
-    end desk.coders desk.decoders n.result v.1 v.2 (omega arith) l.loop.ok l.loop.i (omega arith)
+    let v = l.loop-i.invariant in
+    end desk.coders desk.decoders n.result v.1 v.2 (omega arith) l.loop-i.ok l.loop-i.i (omega arith)
     ∙ v.3
     ∙ ap (λ (k : ℕ). all_good good_port (take k (zip desk.coders desk.decoders))) n.ensures
     ∙ ap (all_good good_port)
     (used (zip desk.coders desk.decoders) desk.ports (omega (arith, pairs_length desk.coders desk.decoders)))
 
-pub good-ports-spec : {M : Type 1} → statement M
-good-ports-spec =
+pub good_ports_spec : {M : Type 1} → statement M
+good_ports_spec =
     tie.close
     (tie.spec
     invariant-loop

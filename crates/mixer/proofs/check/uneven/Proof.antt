@@ -4,21 +4,21 @@ use Rattle.conference.specs.Tick.{uneven}
 use Rattle.mixer.proofs.check.uneven.Statement.{statement}
 use Rattle.mixer.proofs.check.uneven.Tie as tie
 
-returns : tie.Need-returns
+returns : tie.Need-returns-then-modes-ports
 unfolding uneven
-returns c = let a = c.before.args in simp (ne_eqb a.modes a.ports c.if1.true)
+returns c = let a = c.before.args in simp (ne_eqb a.modes a.ports c.if-modes-ports.true)
 
-returns-2 : tie.Need-returns-2
+returns-2 : tie.Need-returns-then-octets-ports
 unfolding uneven
 returns-2 c =
     let a = c.before.before.args in
-    simp (eq-eqb a.modes a.ports c.before.if1.false, ne_eqb a.octets a.ports c.if2.true)
+    simp (eq-eqb a.modes a.ports c.before.if-modes-ports.false, ne_eqb a.octets a.ports c.if-octets-ports.true)
 
-returns-3 : tie.Need-returns-3
+returns-3 : tie.Need-returns
 unfolding uneven
 returns-3 c =
     let a = c.before.before.args in
-    simp (eq-eqb a.modes a.ports c.before.if1.false, eq-eqb a.octets a.ports c.if2.false)
+    simp (eq-eqb a.modes a.ports c.before.if-modes-ports.false, eq-eqb a.octets a.ports c.if-octets-ports.false)
 
-pub uneven-spec : {M : Type 1} → statement M
-uneven-spec = tie.close (tie.spec returns returns-2 returns-3)
+pub uneven_spec : {M : Type 1} → statement M
+uneven_spec = tie.close (tie.spec returns returns-2 returns-3)

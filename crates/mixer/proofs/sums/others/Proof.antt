@@ -15,9 +15,9 @@ difference : (c : tie.After-wide)
     → to_z w32 (of_z w32 c.before.args.all) -ℤ to_z w32 (of_z w32 c.wide.result) ≡ c.before.args.all -ℤ c.before.args.own_val
 difference c =
     let s = c.before in
-    λ i. to_z-of_z s.ranges.all i -ℤ widened c.wide.type-inv c.wide.ensures s.ranges.own_val i
+    λ i. to_z-of_z s.ranges.all i -ℤ widened c.wide.type_inv c.wide.ensures s.ranges.own_val i
 
-sub-limit : tie.Need-overflow-sub-limit
+sub-limit : tie.Need-overflow_sub-all
 sub-limit c =
     let s = c.before in
     rw (difference c) (fits_abs (omega (arith, abs_sub s.args.all s.args.own_val, abs16 s.ranges.own_val)))
@@ -25,5 +25,5 @@ sub-limit c =
 returns : tie.Need-returns
 returns c = c.limit.ensures ∙ ap limited (to_z-of_z (sub-limit c.before) ∙ difference c.before)
 
-pub others-spec : {M : Type 1} → statement M
-others-spec = tie.close (tie.spec (λ c κs. tt) sub-limit (λ c κs. tt) returns)
+pub others_spec : {M : Type 1} → statement M
+others_spec = tie.close (tie.spec (λ c κs. tt) sub-limit (λ c κs. tt) returns)

@@ -16,14 +16,14 @@ use Rattle.conference.specs.Sums.{sum_of}
 use Rattle.mixer.proofs.sums.total.Statement.{statement}
 use Rattle.mixer.proofs.sums.total.Tie as tie
 
-abbrev invariant-loop : tie.invariant-loop
+abbrev invariant-loop : tie.invariant-loop-i
 invariant-loop signals sum₀ i₀ i-end sum i =
     (i ≤ i-end)
     × (i-end ≡ length signals)
     × (to_z w32 sum +ℤ sum_of (drop i signals) ≡ sum_of signals)
     × (nat_abs (to_z w32 sum) ≤ 32768 * i)
 
-abbrev decreases-loop : tie.decreases-loop
+abbrev decreases-loop : tie.decreases-loop-i
 decreases-loop signals sum₀ i₀ i-end sum i = i-end - i
 
 -- one signal moves from the rest to the sum
@@ -40,50 +40,50 @@ end : (sum : ℤ) (xs : List ℤ) (i : ℕ) → length xs ≤ i → sum ≡ sum 
 unfolding sum_of
 end sum xs i h = rw (drop_of_length-le xs h) (omega (zarith, add_read sum (pos 0)))
 
-loop-holds : tie.Need-loop-init invariant-loop decreases-loop
+loop-holds : tie.Need-loop-i-init invariant-loop decreases-loop
 loop-holds c = (omega arith, refl, omega (zarith, add_read (pos 0) (sum_of c.args.signals.now)), omega arith)
 
 -- a signal, as it is read, and the sum with it
-module _ (c : tie.After-wide invariant-loop decreases-loop) where
-  abbrev at : tie.At-loop invariant-loop decreases-loop
+module _ (c : tie.After-wide-sum invariant-loop decreases-loop) where
+  abbrev at : tie.At-loop-i invariant-loop decreases-loop
   at = c.before.before.before
 
   abbrev signal : ℤ
-  signal = get_or at.before.args.signals.now at.loop.i (pos 0)
+  signal = get_or at.before.args.signals.now at.loop-i.i (pos 0)
 
   signal-fits : SFits w16 signal
-  signal-fits = record { sfits = c.before.wide-arg.given }
+  signal-fits = record { sfits = c.before.wide-arg-1.given }
 
-  read : to_z w32 (of_z w32 c.wide.result) ≡ signal
-  read = widened c.wide.type-inv c.wide.ensures signal-fits
+  read : to_z w32 (of_z w32 c.wide-sum.result) ≡ signal
+  read = widened c.wide-sum.type_inv c.wide-sum.ensures signal-fits
 
-  size : nat_abs (to_z w32 at.loop.sum +ℤ signal) ≤ 32768 * (at.loop.i + 1)
-  size = omega (arith, abs_add (to_z w32 at.loop.sum) signal, abs16 signal-fits, at.loop.inv.3)
+  size : nat_abs (to_z w32 at.loop-i.sum-bits +ℤ signal) ≤ 32768 * (at.loop-i.i + 1)
+  size = omega (arith, abs_add (to_z w32 at.loop-i.sum-bits) signal, abs16 signal-fits, at.loop-i.invariant.3)
 
-  fits : SFits w32 (to_z w32 at.loop.sum +ℤ to_z w32 (of_z w32 c.wide.result))
+  fits : SFits w32 (to_z w32 at.loop-i.sum-bits +ℤ to_z w32 (of_z w32 c.wide-sum.result))
   fits = rw read (fits_abs (omega (arith, size)))
 
-  summed : to_z w32 (of_z w32 (to_z w32 at.loop.sum +ℤ to_z w32 (of_z w32 c.wide.result))) ≡ to_z w32 at.loop.sum +ℤ signal
-  summed = to_z-of_z fits ∙ ap (λ (z : ℤ). to_z w32 at.loop.sum +ℤ z) read
+  summed : to_z w32 (of_z w32 (to_z w32 at.loop-i.sum-bits +ℤ to_z w32 (of_z w32 c.wide-sum.result))) ≡ to_z w32 at.loop-i.sum-bits +ℤ signal
+  summed = to_z-of_z fits ∙ ap (λ (z : ℤ). to_z w32 at.loop-i.sum-bits +ℤ z) read
 
-loop-again : tie.Need-loop-preserved invariant-loop decreases-loop
+loop-again : tie.Need-loop-i-preserved invariant-loop decreases-loop
 loop-again c =
-    let l = (at c).loop in
+    let l = (at c).loop-i in
     let signals = (at c).before.args.signals.now in (
       omega arith,
-      l.inv.1,
-      ap (λ (z : ℤ). z +ℤ sum_of (drop (l.i + 1) signals)) (summed c) ∙ turn (to_z w32 l.sum) signals l.i (omega arith) ∙ l.inv.2,
+      l.invariant.1,
+      ap (λ (z : ℤ). z +ℤ sum_of (drop (l.i + 1) signals)) (summed c) ∙ turn (to_z w32 l.sum) signals l.i (omega arith) ∙ l.invariant.2,
       rw (summed c) (size c),
     )
 
 returns : tie.Need-returns invariant-loop decreases-loop
 returns c =
-    let l = c.before.loop in
+    let l = c.before.loop-i in
     let signals = c.before.before.args.signals.now in
     (end (to_z w32 l.sum) signals l.i (omega arith) ∙ l.invariant.2, omega arith)
 
-pub total-spec : {M : Type 1} → statement M
-total-spec =
+pub total_spec : {M : Type 1} → statement M
+total_spec =
     tie.close
     (tie.spec
     invariant-loop

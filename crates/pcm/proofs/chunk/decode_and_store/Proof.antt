@@ -9,7 +9,7 @@ use borrow.Author.Rules.{rules}
 use Rattle.pcm.proofs.chunk.decode_and_store.Statement.{statement}
 use Rattle.pcm.proofs.chunk.decode_and_store.Tie as tie
 
-returns : tie.Need-returns
+returns : tie.Need-returns-then-r-eq0
 unfolding as_bytes
 returns c =
     let t = c.before.before in
@@ -18,20 +18,20 @@ returns c =
     let a = d.before.before.before.before.args in
     does
     (decode_done a.d a.told a.octets.now a.bytes.now a.samples.now (omega arith) (omega arith)
-    d.decode.ensures.answer n.if1.true)
-    d.decode.ensures.answer (t.store.ensures.left ∙ store_all _ _ (omega arith) ∙ ap pcm_bytes d.decode.ensures.left)
+    d.decode-r.ensures.answer n.if-r-eq0.true)
+    d.decode-r.ensures.answer (t.store.ensures.left ∙ store_all _ _ (omega arith) ∙ ap pcm_bytes d.decode-r.ensures.left)
 
-returns-2 : tie.Need-returns-2
+returns-2 : tie.Need-returns-else-r-eq0
 returns-2 c =
     let d = c.before.before.before in
     let a = d.before.before.before.before.args in
     does
     (decode_refused a.d a.told a.octets.now a.bytes.now a.samples.now (omega arith) (omega arith)
-    d.decode.ensures.answer c.if1.false)
-    d.decode.ensures.answer refl
+    d.decode-r.ensures.answer c.if-r-eq0.false)
+    d.decode-r.ensures.answer refl
 
-pub decode-and-store-spec : {M : Type 1} → statement M
-decode-and-store-spec =
+pub decode_and_store_spec : {M : Type 1} → statement M
+decode_and_store_spec =
     tie.close
     (tie.spec
     (λ c κs. search rules)

@@ -19,8 +19,8 @@ returns c =
     does (ap (λ (s : List ℤ). code_call a.c s a.octets.now) samples)
     k.code.ensures.answer k.code.ensures.left
 
-pub load-and-code-spec : {M : Type 1} → statement M
-load-and-code-spec =
+pub load_and_code_spec : {M : Type 1} → statement M
+load_and_code_spec =
     tie.close (tie.spec
     (λ c κs. search rules)
     (λ c κs. search rules)

@@ -12,64 +12,64 @@ use borrow.Author.Rules.{rules}
 use Rattle.pcm.proofs.signals.hear_chunk.Statement.{statement}
 use Rattle.pcm.proofs.signals.hear_chunk.Tie as tie
 
-returns : tie.Need-returns
+returns : tie.Need-returns-then-told-gt3
 unfolding not_heard_bytes
-returns c = does (hear_untold _ _ _ _ _ (omega arith)) c.not-decoded.ensures refl
+returns c = does (hear_untold _ _ _ _ _ (omega arith)) c.not_decoded.ensures refl
 
-returns-2 : tie.Need-returns-2
+returns-2 : tie.Need-returns-then-unpaired
 unfolding not_heard_bytes
 returns-2 c =
     let t = c.before in
-    does (hear_unfit _ _ _ _ _ (omega arith) (sym t.before.unpaired.ensures ∙ t.if2.true)) c.not-decoded2.ensures refl
+    does (hear_unfit _ _ _ _ _ (omega arith) (sym t.before.unpaired.ensures ∙ t.if-unpaired.true)) c.not_decoded-then-unpaired.ensures refl
 
 -- lengths that fit
-fit : (e : tie.Else2) → let a = e.before.before.before.before.before.before.args in
+fit : (e : tie.Else-unpaired) → let a = e.before.before.before.before.before.before.args in
     (length a.octets.now ≤ 8000) × (length a.low.now ≡ 2 * length a.octets.now)
     × (length a.high.now ≡ 2 * length a.octets.now)
-fit e = fits _ _ _ (sym e.before.unpaired.ensures ∙ e.if2.false)
+fit e = fits _ _ _ (sym e.before.unpaired.ensures ∙ e.if-unpaired.false)
 
 -- the signals that a call borrows are one for each octet, in the short frames and in the long ones
-slice-rl : tie.Need-slice-aggregate-hear-and-store
+slice-rl : tie.Need-slice_bounds-hear_and_store-end
 slice-rl c = sym (length-take-le _ _ (omega arith))
 
-slice-rh : tie.Need-slice-aggregate-hear-and-store-2
+slice-rh : tie.Need-slice_bounds-hear_and_store-end-then-n-le160
 slice-rh c = sym (length-take-le _ _ (omega arith))
 
-short : tie.Need-hear-and-store-requires
+short : tie.Need-hear_and_store-requires
 short c κs =
     let f = fit c.before.before.before.before.before in
     (length-take-le _ _ (omega arith), length-take-le _ _ (omega arith), f.1, f.2)
 
 -- a broken record, of a long call
-returns-4 : tie.Need-returns-4
+returns-4 : tie.Need-returns-then-not-good_decoder
 unfolding not_heard_bytes
 returns-4 c =
     let t = c.before in
     let e = t.before.before.before in
     does
-    (hear_broken _ _ _ _ _ (omega arith) (sym e.before.unpaired.ensures ∙ e.if2.false)
-    (sym t.before.good-decoder.ensures ∙ not-true _ t.if4.true))
-    c.not-decoded3.ensures refl
+    (hear_broken _ _ _ _ _ (omega arith) (sym e.before.unpaired.ensures ∙ e.if-unpaired.false)
+    (sym t.before.good_decoder.ensures ∙ not-true _ t.if-not-good_decoder.true-raw))
+    c.not_decoded-then-not-good_decoder.ensures refl
 
-prefix-rl : tie.Need-array-borrow-prefix-rl-2
+prefix-rl : tie.Need-slice_bounds-rl-end-2
 prefix-rl c = omega (arith, (fit c.before.before.before).0)
 
-slice-rl-2 : tie.Need-slice-aggregate-hear-and-store-3
+slice-rl-2 : tie.Need-slice_bounds-hear_and_store-end-2
 slice-rl-2 c = sym (length-take-le _ _ (omega (arith, (fit c.before.before.before.before).0)))
 
-prefix-rh : tie.Need-array-borrow-prefix-rh-2
+prefix-rh : tie.Need-slice_bounds-rh-end-2
 prefix-rh c = omega (arith, (fit c.before.before.before.before).0)
 
-slice-rh-2 : tie.Need-slice-aggregate-hear-and-store-4
+slice-rh-2 : tie.Need-slice_bounds-hear_and_store-end-3
 slice-rh-2 c = sym (length-take-le _ _ (omega (arith, (fit c.before.before.before.before.before).0)))
 
-long : tie.Need-hear-and-store-requires-2
+long : tie.Need-hear_and_store-requires-2
 long c κs =
     let f = fit c.before.before.before.before.before.before.before in
     (length-take-le _ _ (omega (arith, f.0)), length-take-le _ _ (omega (arith, f.0)), f.1, f.2)
 
-pub hear-chunk-spec : {M : Type 1} → statement M
-hear-chunk-spec =
+pub hear_chunk_spec : {M : Type 1} → statement M
+hear_chunk_spec =
     tie.close
     (tie.spec
     (λ c κs. tt)

@@ -13,21 +13,21 @@ use borrow.Author.Rules.{rules}
 use Rattle.pcm.proofs.signals.load_and_join.Statement.{statement}
 use Rattle.pcm.proofs.signals.load_and_join.Tie as tie
 
-abbrev began : tie.After-join → tie.Start
+abbrev began : tie.After-join-r → tie.Start
 began j = j.before.before.before.before.before.before.before.before.before.before.before.before.before
 
 -- the call on the signals that the bytes are
-did : (j : tie.After-join) → let a = (began j).args in
-    Does (join_call a.d (pcm_samples a.low.now) (pcm_samples a.high.now) a.x.now) j.join.result j.join.new.1.1.1.0
+did : (j : tie.After-join-r) → let a = (began j).args in
+    Does (join_call a.d (pcm_samples a.low.now) (pcm_samples a.high.now) a.x.now) j.join-r.result j.join-r.new.1.1.1.0
 did j =
     let g = j.before.before.before.before.before in
     let f = g.before.before.before in
     let a = (began j).args in
     let low = f.load.ensures.left ∙ load_all a.low.now a.rl.now (omega arith) in
-    let high = g.load2.ensures.left ∙ load_all a.high.now a.rh.now (omega arith) in
-    does (ap₂ (λ (x y : List ℤ). join_call a.d x y a.x.now) (sym low) (sym high)) j.join.ensures.answer j.join.ensures.left
+    let high = g.load-2.ensures.left ∙ load_all a.high.now a.rh.now (omega arith) in
+    does (ap₂ (λ (x y : List ℤ). join_call a.d x y a.x.now) (sym low) (sym high)) j.join-r.ensures.answer j.join-r.ensures.left
 
-returns : tie.Need-returns
+returns : tie.Need-returns-then-r-eq0
 unfolding as_bytes
 returns c =
     let s = c.before.before in
@@ -37,21 +37,21 @@ returns c =
     let a = g.args in
     does
     (join_done a.d a.low.now a.high.now a.samples.now (length a.rl.now) a.x.now
-    g.pre.0 g.pre.1 g.pre.4 g.pre.3 (did j).answer t.if1.true)
-    (did j).answer (s.store.ensures.left ∙ store_all _ _ (omega (arith, g.pre)) ∙ ap pcm_bytes (did j).left)
+    g.requires.0 g.requires.1 g.requires.4 g.requires.3 (did j).answer t.if-r-eq0.true)
+    (did j).answer (s.store.ensures.left ∙ store_all _ _ (omega (arith, g.requires)) ∙ ap pcm_bytes (did j).left)
 
-returns-2 : tie.Need-returns-2
+returns-2 : tie.Need-returns-else-r-eq0
 returns-2 c =
     let j = c.before.before.before in
     let g = began j in
     let a = g.args in
     does
     (join_refused a.d a.low.now a.high.now a.samples.now (length a.rl.now) a.x.now
-    g.pre.0 g.pre.1 g.pre.4 g.pre.3 (did j).answer c.if1.false)
+    g.requires.0 g.requires.1 g.requires.4 g.requires.3 (did j).answer c.if-r-eq0.false)
     (did j).answer refl
 
-pub load-and-join-spec : {M : Type 1} → statement M
-load-and-join-spec =
+pub load_and_join_spec : {M : Type 1} → statement M
+load_and_join_spec =
     tie.close
     (tie.spec
     (λ c κs. tt)

@@ -11,7 +11,7 @@ octet-requires : tie.Need-octet-requires
 unfolding low_coded high_coded
 octet-requires c κs =
     let h = c.before.before in
-    (rw h.high-coded.ensures (quanth_small _ _), rw h.before.low-coded.ensures (quantl_small _ _))
+    (rw h.high_coded-h.ensures (quanth_small _ _), rw h.before.low_coded-l.ensures (quantl_small _ _))
 
 returns : tie.Need-returns
 returns c =
@@ -19,9 +19,9 @@ returns c =
     let l = h.before in
     let s = l.before in
     signals_coded s.args.low s.args.high s.args.xl s.args.xh
-    (l.low-coded.ensures ∙ ap (low_coded s.args.low) (to_z-of_z s.ranges.xl))
-    (h.high-coded.ensures ∙ ap (high_coded s.args.high) (to_z-of_z s.ranges.xh))
+    (l.low_coded-l.ensures ∙ ap (low_coded s.args.low) (to_z-of_z s.ranges.xl))
+    (h.high_coded-h.ensures ∙ ap (high_coded s.args.high) (to_z-of_z s.ranges.xh))
     c.octet.ensures
 
-pub bands-coded-spec : {M : Type 1} → statement M
-bands-coded-spec = tie.close (tie.spec (λ c κs. tt) (λ c κs. tt) octet-requires returns)
+pub bands_coded_spec : {M : Type 1} → statement M
+bands_coded_spec = tie.close (tie.spec (λ c κs. tt) (λ c κs. tt) octet-requires returns)

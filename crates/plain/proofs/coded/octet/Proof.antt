@@ -9,5 +9,5 @@ returns : tie.Need-returns
 unfolding octet
 returns c = refl
 
-pub octet-spec : {M : Type 1} → statement M
-octet-spec = tie.close (tie.spec (λ c. search rules) (λ c. search rules) returns)
+pub octet_spec : {M : Type 1} → statement M
+octet_spec = tie.close (tie.spec (λ c. search rules) (λ c. search rules) returns)

@@ -1,6 +1,6 @@
 -- `plain::high_heard` meets its contract, by those of its calls.
 use mathlib.Core.Path.{ap, ◌∙◌}
-use Rattle.laws.specs.Back.{back16, got16, got32}
+use Rattle.laws.specs.Back.{back16, back32}
 use Rattle.g722.specs.Octet.{high_word}
 use Rattle.g722.specs.Quantise.{invqah, high_factors}
 use Rattle.g722.specs.Band.{high_after}
@@ -19,17 +19,17 @@ returns c =
     let s = q.before.before.before.before in
     let band = s.args.s in
     let ih = high_word s.args.o in
-    let scale = back16 band.factors.scale q.before.before.struct_told.given.1.0.1 in
-    let d = got16 q.invqah ∙ q.invqah.ensures ∙ ap (invqah ih) scale in
+    let scale = back16 band.factors.scale q.before.before.struct_told-1.given.1.0.1 in
+    let d = back16 q.invqah-d.result q.invqah-d.type_inv ∙ q.invqah-d.ensures ∙ ap (invqah ih) scale in
     band_heard band (invqah ih band.factors.scale) (invqah ih band.factors.scale) (high_factors band.factors ih)
-    q.before.estimate.ensures
-    (back16 q.before.estimate.result.s a.before.struct-told2.given.1.0.1)
+    q.before.estimate-e.ensures
+    (back16 q.before.estimate-e.result.s a.before.struct_told-2-1.given.1.0.1)
     d
-    (got32 l.before.wide ∙ l.before.wide.ensures ∙ got16 a.add ∙ a.add.ensures)
+    (back32 l.before.wide.result l.before.wide.type_inv ∙ l.before.wide.ensures ∙ back16 a.add.result a.add.type_inv ∙ a.add.ensures)
     l.limit.ensures
     d
-    c.before.high-factors.ensures c.adapt.ensures
+    c.before.high_factors.ensures c.adapt.ensures
 
-pub high-heard-spec : {M : Type 1} → statement M
-high-heard-spec =
+pub high_heard_spec : {M : Type 1} → statement M
+high_heard_spec =
     tie.close (tie.spec (λ c κs. tt) (λ c κs. tt) (λ c κs. tt) (λ c κs. tt) (λ c κs. tt) (λ c κs. tt) (λ c κs. tt) returns)

@@ -1,7 +1,7 @@
 -- `quant::logscl` meets its contract, by those of its calls.
 use mathlib.Core.Path.{◌∙◌}
 use mir.Facts.{to_z-of_z}
-use Rattle.laws.specs.Back.{got16}
+use Rattle.laws.specs.Back.{back16}
 use Rattle.g722.specs.Quantise.{logscl}
 use Rattle.quant.proofs.factors.logscl.Statement.{statement}
 use Rattle.quant.proofs.factors.logscl.Tie as tie
@@ -11,11 +11,11 @@ unfolding logscl
 returns c =
     let b = c.before.before in
     rw (
-      got16 c.logsc ∙ c.logsc.ensures,
-      got16 c.before.wl-at ∙ c.before.wl-at.ensures,
-      b.from-four.ensures,
+      back16 c.logsc.result c.logsc.type_inv ∙ c.logsc.ensures,
+      back16 c.before.wl_at.result c.before.wl_at.type_inv ∙ c.before.wl_at.ensures,
+      b.from_four-v.ensures,
       to_z-of_z b.before.ranges.nbl,
     )
 
-pub logscl-spec : {M : Type 1} → statement M
-logscl-spec = tie.close (tie.spec (λ c κs. tt) (λ c κs. tt) (λ c κs. tt) returns)
+pub logscl_spec : {M : Type 1} → statement M
+logscl_spec = tie.close (tie.spec (λ c κs. tt) (λ c κs. tt) (λ c κs. tt) returns)

@@ -8,16 +8,16 @@ use Rattle.quant.proofs.Counting.{level_test}
 use Rattle.quant.proofs.levels.below.Statement.{statement}
 use Rattle.quant.proofs.levels.below.Tie as tie
 
-add-result : tie.Need-overflow-add-result
+add-result : tie.Need-overflow_add-result
 add-result c = rw (i32_read c.ranges.size) (record { sfits = omega arith })
 
-mul-result : tie.Need-overflow-mul-result
+mul-result : tie.Need-overflow_mul-result
 mul-result c = rw (to_z-of_z (add-result c), i32_read c.ranges.size) (record { sfits = omega arith })
 
-mul-result-2 : tie.Need-overflow-mul-result-2
+mul-result-2 : tie.Need-overflow_mul-result-2
 mul-result-2 c =
     let s = c.before in
-    rw (i32_read s.ranges.q, widened c.wide.type-inv c.wide.ensures s.ranges.scale)
+    rw (i32_read s.ranges.q, widened c.wide.type_inv c.wide.ensures s.ranges.scale)
     (level_product_fits s.args.q s.requires s.ranges.scale)
 
 returns : tie.Need-returns
@@ -29,9 +29,9 @@ returns c =
       to_z-of_z (mul-result-2 c),
       i32_read s.ranges.size,
       i32_read s.ranges.q,
-      widened c.wide.type-inv c.wide.ensures s.ranges.scale,
+      widened c.wide.type_inv c.wide.ensures s.ranges.scale,
     ) (level_test s.args.size s.args.q s.args.scale s.requires s.ranges.scale)
 
-pub below-spec : {M : Type 1} → statement M
-below-spec =
+pub below_spec : {M : Type 1} → statement M
+below_spec =
     tie.close (tie.spec (λ c. search rules) add-result mul-result (λ c. search rules) (λ c κs. tt) mul-result-2 returns)

@@ -9,37 +9,37 @@ use Rattle.quant.proofs.Counting.{behind}
 use Rattle.quant.proofs.levels.low_interval.Statement.{statement}
 use Rattle.quant.proofs.levels.low_interval.Tie as tie
 
-returns : tie.Need-returns
+returns : tie.Need-returns-then-below-2
 returns c =
     let s = c.before.before.before.before.before in
     rw (to_z-of_z s.ranges.scale) at c.search.ensures ∙ ap (λ (n : ℕ). 1 + n) (zero-add _)
 
-returns-2 : tie.Need-returns-2
+returns-2 : tie.Need-returns-then-below
 unfolding q6
 returns-2 c =
     let b = c.before.before in
     let s = b.before.before.before in
-    let e = rw (to_z-of_z s.ranges.scale) at (sym b.below2.ensures ∙ c.before.if2.false) in
-    rw (to_z-of_z s.ranges.scale) at c.search2.ensures ∙ behind s.args.size 5 (lit< tt) s.args.scale e
+    let e = rw (to_z-of_z s.ranges.scale) at (sym b.below-then-below.ensures ∙ c.before.if-below-2.false) in
+    rw (to_z-of_z s.ranges.scale) at c.search-then-below.ensures ∙ behind s.args.size 5 (lit< tt) s.args.scale e
 
-returns-3 : tie.Need-returns-3
+returns-3 : tie.Need-returns-then-below-3
 unfolding q6
 returns-3 c =
     let b = c.before.before.before.before in
     let s = b.before in
-    let e = rw (to_z-of_z s.ranges.scale) at (sym b.below.ensures ∙ c.before.before.before.if1.false) in
-    rw (to_z-of_z s.ranges.scale) at c.search3.ensures ∙ behind s.args.size 10 (lit< tt) s.args.scale e
+    let e = rw (to_z-of_z s.ranges.scale) at (sym b.below.ensures ∙ c.before.before.before.if-below.false) in
+    rw (to_z-of_z s.ranges.scale) at c.search-then-below-3.ensures ∙ behind s.args.size 10 (lit< tt) s.args.scale e
 
-returns-4 : tie.Need-returns-4
+returns-4 : tie.Need-returns
 unfolding q6
 returns-4 c =
     let b = c.before.before in
     let s = b.before.before.before in
-    let e = rw (to_z-of_z s.ranges.scale) at (sym b.below3.ensures ∙ c.before.if3.false) in
-    rw (to_z-of_z s.ranges.scale) at c.search4.ensures ∙ behind s.args.size 19 (lit< tt) s.args.scale e
+    let e = rw (to_z-of_z s.ranges.scale) at (sym b.below-2.ensures ∙ c.before.if-below-3.false) in
+    rw (to_z-of_z s.ranges.scale) at c.search-2.ensures ∙ behind s.args.size 19 (lit< tt) s.args.scale e
 
-pub low-interval-spec : {M : Type 1} → statement M
-low-interval-spec =
+pub low_interval_spec : {M : Type 1} → statement M
+low_interval_spec =
     tie.close
     (tie.spec
     (λ c. lit< tt)

@@ -9,12 +9,12 @@ unfolding quantise quanth
 returns c =
     let b = c.before.before in
     rw (
-      c.to-two.ensures,
-      c.before.high-interval.ensures,
+      c.to_two.ensures,
+      c.before.high_interval.ensures,
       b.size.ensures,
       to_z-of_z b.before.ranges.eh,
       to_z-of_z b.before.ranges.deth,
     )
 
-pub quanth-spec : {M : Type 1} → statement M
-quanth-spec = tie.close (tie.spec (λ c κs. tt) (λ c κs. tt) (λ c κs. tt) returns)
+pub quanth_spec : {M : Type 1} → statement M
+quanth_spec = tie.close (tie.spec (λ c κs. tt) (λ c κs. tt) (λ c κs. tt) returns)

@@ -9,12 +9,12 @@ unfolding quantise quantl
 returns c =
     let b = c.before.before in
     rw (
-      c.to-six.ensures,
-      c.before.low-interval.ensures,
+      c.to_six.ensures,
+      c.before.low_interval.ensures,
       b.size.ensures,
       to_z-of_z b.before.ranges.el,
       to_z-of_z b.before.ranges.detl,
     )
 
-pub quantl-spec : {M : Type 1} → statement M
-quantl-spec = tie.close (tie.spec (λ c κs. tt) (λ c κs. tt) (λ c κs. tt) returns)
+pub quantl_spec : {M : Type 1} → statement M
+quantl_spec = tie.close (tie.spec (λ c κs. tt) (λ c κs. tt) (λ c κs. tt) returns)

@@ -11,41 +11,41 @@ use Rattle.quant.proofs.Counting.{Counted, end, on, over}
 use Rattle.quant.proofs.levels.search.Statement.{statement}
 use Rattle.quant.proofs.levels.search.Tie as tie
 
-abbrev invariant-loop : tie.invariant-loop
+abbrev invariant-loop : tie.invariant-loop-i
 invariant-loop from size scale q i₀ i = Counted from size (to_z w16 scale) i
 
-abbrev decreases-loop : tie.decreases-loop
+abbrev decreases-loop : tie.decreases-loop-i
 decreases-loop from size scale q i₀ i = 29 - i
 
-loop-again : tie.Need-loop-preserved invariant-loop decreases-loop
+loop-again : tie.Need-loop-i-preserved invariant-loop decreases-loop
 unfolding q6
 loop-again c =
     let b = c.before.before in
     let s = b.before.before in
-    on s.args.from s.args.size b.before.loop.i b.if1.false (to_z w16 (of_z w16 s.args.scale))
-    (sym c.before.below.ensures ∙ c.if2.false) b.before.loop.invariant
+    on s.args.from s.args.size b.before.loop-i.i b.if-i-ge29.false (to_z w16 (of_z w16 s.args.scale))
+    (sym c.before.below.ensures ∙ c.if-below.false) b.before.loop-i.invariant
 
-returns : tie.Need-returns invariant-loop decreases-loop
+returns : tie.Need-returns-then-i-ge29 invariant-loop decreases-loop
 returns c =
     let s = c.before.before in
     rw (← to_z-of_z s.ranges.scale)
-    (end s.args.from s.args.size c.before.loop.i c.if1.true (to_z w16 (of_z w16 s.args.scale)) c.before.loop.invariant)
+    (end s.args.from s.args.size c.before.loop-i.i c.if-i-ge29.true (to_z w16 (of_z w16 s.args.scale)) c.before.loop-i.invariant)
 
-returns-2 : tie.Need-returns-2 invariant-loop decreases-loop
+returns-2 : tie.Need-returns-then-below invariant-loop decreases-loop
 unfolding q6
 returns-2 c =
     let b = c.before.before in
     let s = b.before.before in
     rw (← to_z-of_z s.ranges.scale)
-    (over s.args.from s.args.size b.before.loop.i b.if1.false (to_z w16 (of_z w16 s.args.scale))
-    (sym c.before.below.ensures ∙ c.if2.true) b.before.loop.invariant)
+    (over s.args.from s.args.size b.before.loop-i.i b.if-i-ge29.false (to_z w16 (of_z w16 s.args.scale))
+    (sym c.before.below.ensures ∙ c.if-below.true) b.before.loop-i.invariant)
 
 below-requires : tie.Need-below-requires invariant-loop decreases-loop
 unfolding q6
-below-requires c κs = q6_small c.before.loop.i
+below-requires c κs = q6_small c.before.loop-i.i
 
-pub search-spec : {M : Type 1} → statement M
-search-spec =
+pub search_spec : {M : Type 1} → statement M
+search_spec =
     tie.close
     (tie.spec
     invariant-loop

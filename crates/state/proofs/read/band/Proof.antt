@@ -28,27 +28,27 @@ returns c =
     let l2 = l3.before.before.before.before in
     let l1 = l2.before.before.before.before in
     let s = l1.before.before.before.before.args.bytes.now in
-    let rest = l3.load3.new.1.0 in
+    let rest = l3.load-3.new.1.0 in
     let at : (k : ℕ) → mag (value rest k) < 2 ^ 15 → to_z w16 (of_z w16 (value rest k)) ≡ value rest k = λ k h. back16 (value rest k) h in
     (λ i. record {
-      zeros = record { b = l1.load.new.1.0; d = l2.load2.new.1.0 };
+      zeros = record { b = l1.load.new.1.0; d = l2.load-2.new.1.0 };
       poles = record {
-        a1 = at 0 t0.t27.given i;
-        a2 = at 1 t1.t30.given i;
-        r1 = at 2 t2.t33.given i;
-        r2 = at 3 t3.t36.given i;
-        p1 = at 4 t4.t39.given i;
-        p2 = at 5 t5.t42.given i;
+        a1 = at 0 t0.result-1.given i;
+        a2 = at 1 t1.result-2-1.given i;
+        r1 = at 2 t2.result-3-1.given i;
+        r2 = at 3 t3.result-4-1.given i;
+        p1 = at 4 t4.result-5-1.given i;
+        p2 = at 5 t5.result-6-1.given i;
       };
-      factors = record { log = at 6 t6.t46.given i; scale = at 7 c.t49.given i };
+      factors = record { log = at 6 t6.result-7-1.given i; scale = at 7 c.result-8-1.given i };
     })
     ∙ band_read (pcm_samples s)
     (values_at 0 6 (replicate 6 (pos 0)) s (omega arith) refl l1.load.ensures.left)
-    (values_at 6 6 (replicate 6 (pos 0)) s (omega arith) refl l2.load2.ensures.left)
-    (values_at 12 8 (replicate 8 (pos 0)) s (omega arith) refl l3.load3.ensures.left)
+    (values_at 6 6 (replicate 6 (pos 0)) s (omega arith) refl l2.load-2.ensures.left)
+    (values_at 12 8 (replicate 8 (pos 0)) s (omega arith) refl l3.load-3.ensures.left)
 
-pub band-spec : {M : Type 1} → statement M
-band-spec =
+pub band_spec : {M : Type 1} → statement M
+band_spec =
     tie.close
     (tie.spec
     (λ c. search rules)

@@ -12,30 +12,30 @@ use borrow.Author.Rules.{rules}
 use Rattle.state.proofs.read.read_coder.Statement.{statement}
 use Rattle.state.proofs.read.read_coder.Tie as tie
 
-returns : tie.Need-returns
+returns : tie.Need-returns-then-not-holds
 returns c =
     let t = c.before.before in
-    no_coder_lem _ c.before.reset-band.ensures c.reset-band2.ensures (sym t.before.holds.ensures ∙ not-true _ t.if1.true)
+    no_coder_lem _ c.before.reset_band.ensures c.reset_band-then-not-holds.ensures (sym t.before.holds.ensures ∙ not-true _ t.if-not-holds.true-raw)
 
 -- past the test
-held : (e : tie.Else1) → holds 1 e.before.before.before.args.state.now ≡ true
-held e = sym e.before.holds.ensures ∙ not-false _ e.if1.false
+held : (e : tie.Else-not-holds) → holds 1 e.before.before.before.args.state.now ≡ true
+held e = sym e.before.holds.ensures ∙ not-false _ e.if-not-holds.false-raw
 
-long : (e : tie.Else1) → length e.before.before.before.args.state.now ≡ 125
+long : (e : tie.Else-not-holds) → length e.before.before.before.args.state.now ≡ 125
 long e = held_length 1 _ (held e)
 
-returns-2 : tie.Need-returns-2
+returns-2 : tie.Need-returns
 returns-2 c =
     let b = c.before.before in
     let l = b.before.before.before in
     let e = l.before.before.before in
     let s = e.before.before.before.args.state.now in
     let n = long e in
-    coder_read s b.band.ensures c.band2.ensures (held e)
+    coder_read s b.band.ensures c.band-2.ensures (held e)
     (values_behind 40 22 (replicate 22 (pos 0)) s (omega arith) refl l.load.ensures.left)
 
-pub read-coder-spec : {M : Type 1} → statement M
-read-coder-spec =
+pub read_coder_spec : {M : Type 1} → statement M
+read_coder_spec =
     tie.close
     (tie.spec
     (λ c κs. search rules)

@@ -12,19 +12,19 @@ use borrow.Author.Rules.{rules}
 use Rattle.state.proofs.read.read_decoder.Statement.{statement}
 use Rattle.state.proofs.read.read_decoder.Tie as tie
 
-returns : tie.Need-returns
+returns : tie.Need-returns-then-not-holds
 returns c =
     let t = c.before.before in
-    no_decoder_lem _ c.before.reset-band.ensures c.reset-band2.ensures (sym t.before.holds.ensures ∙ not-true _ t.if1.true)
+    no_decoder_lem _ c.before.reset_band.ensures c.reset_band-then-not-holds.ensures (sym t.before.holds.ensures ∙ not-true _ t.if-not-holds.true-raw)
 
 -- past the test
-held : (e : tie.Else1) → holds 2 e.before.before.before.args.state.now ≡ true
-held e = sym e.before.holds.ensures ∙ not-false _ e.if1.false
+held : (e : tie.Else-not-holds) → holds 2 e.before.before.before.args.state.now ≡ true
+held e = sym e.before.holds.ensures ∙ not-false _ e.if-not-holds.false-raw
 
-long : (e : tie.Else1) → length e.before.before.before.args.state.now ≡ 125
+long : (e : tie.Else-not-holds) → length e.before.before.before.args.state.now ≡ 125
 long e = held_length 2 _ (held e)
 
-returns-2 : tie.Need-returns-2
+returns-2 : tie.Need-returns
 returns-2 c =
     let b = c.before.before in
     let m = b.before.before.before in
@@ -32,12 +32,12 @@ returns-2 c =
     let e = l.before.before.before in
     let s = e.before.before.before.args.state.now in
     let n = long e in
-    decoder_read s b.band.ensures c.band2.ensures (held e)
+    decoder_read s b.band.ensures c.band-2.ensures (held e)
     (values_behind 40 11 (replicate 11 (pos 0)) s (omega arith) refl l.load.ensures.left)
-    (values_behind 51 11 (replicate 11 (pos 0)) s (omega arith) refl m.load2.ensures.left)
+    (values_behind 51 11 (replicate 11 (pos 0)) s (omega arith) refl m.load-2.ensures.left)
 
-pub read-decoder-spec : {M : Type 1} → statement M
-read-decoder-spec =
+pub read_decoder_spec : {M : Type 1} → statement M
+read_decoder_spec =
     tie.close
     (tie.spec
     (λ c κs. search rules)

@@ -11,19 +11,19 @@ use Rattle.state.proofs.Laws.{Front, stored, written, unwritten, coder_written}
 use Rattle.state.proofs.write.write_coder.Statement.{statement}
 use Rattle.state.proofs.write.write_coder.Tie as tie
 
-returns : tie.Need-returns
-returns c = does (unwritten _ _ c.if1.true) refl refl
+returns : tie.Need-returns-then-state-ne125
+returns c = does (unwritten _ _ c.if-state-ne125.true) refl refl
 
-row : (c : tie.After-past) → length c.before.before.before.before.before.args.c.past ≡ 22
+row : (c : tie.After-past-1) → length c.before.before.before.before.before.args.c.past ≡ 22
 row c = search rules
 
-bands : (c : tie.After-state)
+bands : (c : tie.After-state-1)
     → let w = c.before in
     let r = w.before.before.before.before.before.before.before.args.c in
-    Front 125 81 (1 ∷ pcm_bytes (band_values r.low ++ band_values r.high)) w.write-bands.new.1.1.1.0
-bands c = record { long = omega arith; is = c.before.write-bands.ensures }
+    Front 125 81 (1 ∷ pcm_bytes (band_values r.low ++ band_values r.high)) w.write_bands.new.1.1.1.0
+bands c = record { long = omega arith; is = c.before.write_bands.ensures }
 
-returns-2 : tie.Need-returns-2
+returns-2 : tie.Need-returns
 returns-2 c =
     let s = c.before.before in
     let b = s.before.before.before.before in
@@ -31,11 +31,11 @@ returns-2 c =
     let e = p.before.before.before in
     let r = e.before.before.args.c in
     let l = row p in
-    does (written _ _ e.if1.false) refl
+    does (written _ _ e.if-state-ne125.false) refl
     (coder_written r (stored 81 125 r.past (bands b) (omega arith) (omega arith) (omega (arith, l)) s.store.ensures.left))
 
-pub write-coder-spec : {M : Type 1} → statement M
-write-coder-spec =
+pub write_coder_spec : {M : Type 1} → statement M
+write_coder_spec =
     tie.close
     (tie.spec
     returns

@@ -18,7 +18,7 @@ entry : (k : ℕ) → get_or ilb k 0 ≤ 4095
 unfolding ilb
 entry = entry_small 4095 ilb tt
 
-cast-result : tie.Need-overflow-cast-result
+cast-result : tie.Need-overflow_cast-result
 cast-result c = rw c.before.requires.0 (record { fits = omega (arith, entry (c.before.args.k % 32)) })
 
 returns : tie.Need-returns
@@ -30,8 +30,8 @@ returns c =
     let e = by_method_2 k x (omega arith) (ap (λ (l : _). get_or l (k % 32) 0) s.requires.0) in
     to_z_pos w32 (subst⁻¹ (λ (n : ℕ). n < 2 ^ 31) e (omega (arith, ila_small k))) ∙ ap pos e
 
-pub scale-at-spec : {M : Type 1} → statement M
-scale-at-spec =
+pub scale_at_spec : {M : Type 1} → statement M
+scale_at_spec =
     tie.close
     (tie.spec (λ c. search rules) (λ c. search rules) cast-result (λ c. search rules) (λ c. search rules) (λ c. search rules)
     (λ c. search rules) returns)

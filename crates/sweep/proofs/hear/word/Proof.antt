@@ -16,15 +16,15 @@ by : (t : Bool) (o : ℕ) → o / 2 ^ cond t 4 0 % 64 ≡ o / cond t 16 1 % 64
 by true o = refl
 by false o = refl
 
-cast-result : tie.Need-overflow-cast-result
+cast-result : tie.Need-overflow_cast-result
 cast-result c = rw c.places.ensures (record { fits = omega (arith, few c.before.args.high) })
 
-shr-result : tie.Need-overflow-shr-result
+shr-result : tie.Need-overflow_shr-result
 shr-result c = rw c.places.ensures (few c.before.args.high)
 
 returns : tie.Need-returns
 unfolding word_in
 returns c = (rw c.places.ensures (by c.before.args.high c.before.args.o), mod-lt _ (omega arith))
 
-pub word-spec : {M : Type 1} → statement M
-word-spec = tie.close (tie.spec (λ c κs. tt) cast-result shr-result returns)
+pub word_spec : {M : Type 1} → statement M
+word_spec = tie.close (tie.spec (λ c κs. tt) cast-result shr-result returns)

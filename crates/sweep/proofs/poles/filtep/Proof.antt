@@ -6,25 +6,25 @@ use lib.IntN.{nat_abs}
 use mir.Syntax.{w32}
 use mir.Val.{to_z, of_z}
 use mir.Facts.{to_z-of_z}
-use Rattle.laws.specs.Back.{back32, got32}
+use Rattle.laws.specs.Back.{back32}
 use Rattle.laws.specs.Size.{fits_abs, abs_add}
 use Rattle.idle.specs.Recursive.{stop_abs, filtep_is}
 use Rattle.sweep.proofs.poles.filtep.Statement.{statement}
 use Rattle.sweep.proofs.poles.filtep.Tie as tie
 
 -- the four numbers as they are read
-module _ (c : tie.After-struct-told) where
+module _ (c : tie.After-struct_told-1) where
   a1 : to_z w32 (of_z w32 c.before.args.w.a1) ≡ c.before.args.w.a1
-  a1 = back32 c.before.args.w.a1 c.struct_told.given.0.1
+  a1 = back32 c.before.args.w.a1 c.struct_told-1.given.0.1
 
   a2 : to_z w32 (of_z w32 c.before.args.w.a2) ≡ c.before.args.w.a2
-  a2 = back32 c.before.args.w.a2 c.struct_told.given.1.0.1
+  a2 = back32 c.before.args.w.a2 c.struct_told-1.given.1.0.1
 
   t1 : to_z w32 (of_z w32 c.before.args.w.t1) ≡ c.before.args.w.t1
-  t1 = back32 c.before.args.w.t1 c.struct_told.given.1.1.1.1.0.1
+  t1 = back32 c.before.args.w.t1 c.struct_told-1.given.1.1.1.1.0.1
 
   t2 : to_z w32 (of_z w32 c.before.args.w.t2) ≡ c.before.args.w.t2
-  t2 = back32 c.before.args.w.t2 c.struct_told.given.1.1.1.1.1.0.1
+  t2 = back32 c.before.args.w.t2 c.struct_told-1.given.1.1.1.1.1.0.1
 
 scaled-requires : tie.Need-scaled-requires
 scaled-requires c κs =
@@ -38,14 +38,14 @@ scaled-requires-2 c κs =
     let f = d.before.requires in
     (rw (a2 d) (omega (arith, f.a2)), rw (t2 d, f.t2) (stop_abs _))
 
-add_fit : tie.Need-overflow-add-fit
+add_fit : tie.Need-overflow_add-scaled
 add_fit c =
     let m = c.before.before.before in
     let d = m.before.before in
     let f = d.before.requires in
     let h : nat_abs m.scaled.result ≤ nat_abs d.before.args.w.a1 = rw (a1 d) at m.scaled.ensures.1 in
-    let k : nat_abs c.scaled2.result ≤ nat_abs d.before.args.w.a2 = rw (a2 d) at c.scaled2.ensures.1 in
-    rw (got32 m.scaled, got32 c.scaled2) (fits_abs (omega (arith, abs_add m.scaled.result c.scaled2.result, f.a1, f.a2)))
+    let k : nat_abs c.scaled-2.result ≤ nat_abs d.before.args.w.a2 = rw (a2 d) at c.scaled-2.ensures.1 in
+    rw (back32 m.scaled.result m.scaled.type_inv, back32 c.scaled-2.result c.scaled-2.type_inv) (fits_abs (omega (arith, abs_add m.scaled.result c.scaled-2.result, f.a1, f.a2)))
 
 returns : tie.Need-returns
 returns c =
@@ -54,18 +54,18 @@ returns c =
     let d = m.before.before in
     let s = d.before in (
       rw (
-        got32 c.fit ∙ c.fit.ensures,
+        back32 c.fit.result c.fit.type_inv ∙ c.fit.ensures,
         to_z-of_z (add_fit n),
-        got32 n.scaled2 ∙ n.scaled2.ensures.0,
-        got32 m.scaled ∙ m.scaled.ensures.0,
+        back32 n.scaled-2.result n.scaled-2.type_inv ∙ n.scaled-2.ensures.0,
+        back32 m.scaled.result m.scaled.type_inv ∙ m.scaled.ensures.0,
         a1 d,
         t1 d,
         a2 d,
         t2 d,
       )
           (filtep_is s.args.w s.requires),
-      rw (got32 c.fit ∙ c.fit.ensures) (stop_abs _),
+      rw (back32 c.fit.result c.fit.type_inv ∙ c.fit.ensures) (stop_abs _),
     )
 
-pub filtep-spec : {M : Type 1} → statement M
-filtep-spec = tie.close (tie.spec scaled-requires scaled-requires-2 add_fit (λ c κs. tt) returns)
+pub filtep_spec : {M : Type 1} → statement M
+filtep_spec = tie.close (tie.spec scaled-requires scaled-requires-2 add_fit (λ c κs. tt) returns)

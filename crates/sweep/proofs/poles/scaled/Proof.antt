@@ -12,7 +12,7 @@ use Rattle.idle.specs.Recursive.{scaled_abs}
 use Rattle.sweep.proofs.poles.scaled.Statement.{statement}
 use Rattle.sweep.proofs.poles.scaled.Tie as tie
 
-mul-result : tie.Need-overflow-mul-result
+mul-result : tie.Need-overflow_mul-result
 mul-result c =
     rw (to_z-of_z c.ranges.a, to_z-of_z c.ranges.b)
     (fits_abs (omega (arith, abs_mul c.args.a c.args.b, mul-le-mul c.requires.0 c.requires.1)))
@@ -25,5 +25,5 @@ is c = let m = mul-result c in cc (to_z-of_z (shr_fits 32768 m), to_z-of_z m, to
 returns : tie.Need-returns
 returns c = (is c, rw (is c) (scaled_abs c.args.a c.args.b c.requires.1))
 
-pub scaled-spec : {M : Type 1} → statement M
-scaled-spec = tie.close (tie.spec mul-result returns)
+pub scaled_spec : {M : Type 1} → statement M
+scaled_spec = tie.close (tie.spec mul-result returns)

@@ -6,7 +6,7 @@ use lib.IntN.{ℤ, nat_abs, ◌+ℤ◌}
 use lib.Signed.{mag}
 use mir.Syntax.{w16, w32}
 use mir.Val.{to_z, of_z}
-use Rattle.laws.specs.Back.{got32, widened}
+use Rattle.laws.specs.Back.{widened, back32}
 use Rattle.laws.specs.Size.{abs16}
 use Rattle.g722.specs.Arithmetic.{stop}
 use Rattle.idle.specs.Recursive.{poles_of, stop16}
@@ -23,15 +23,15 @@ twice-requires : tie.Need-twice-requires
 twice-requires c κs =
     let t = c.before in
     let r1 = t.before.before.before.before.before.before.before.before.before.args.s.r1 in
-    let h = t.struct-told5.given.1.1.0.1 in
-    rw (took {x = r1} h c.wide5.type-inv c.wide5.ensures) (few r1 h)
+    let h = t.struct_told-5-1.given.1.1.0.1 in
+    rw (took {x = r1} h c.wide-5.type_inv c.wide-5.ensures) (few r1 h)
 
 twice-requires-2 : tie.Need-twice-requires-2
 twice-requires-2 c κs =
     let t = c.before in
     let r2 = t.before.before.before.before.before.before.before.before.before.before.before.before.args.s.r2 in
-    let h = t.struct-told6.given.1.1.1.0.1 in
-    rw (took {x = r2} h c.wide6.type-inv c.wide6.ensures) (few r2 h)
+    let h = t.struct_told-6-1.given.1.1.1.0.1 in
+    rw (took {x = r2} h c.wide-6.type_inv c.wide-6.ensures) (few r2 h)
 
 returns : tie.Need-returns
 unfolding poles_of
@@ -48,15 +48,15 @@ returns c =
     let w1 = w2.before.before in
     let t = w1.before in
     let s = t.before in
-    let g = t.struct_told.given in
-    let a1 = took g.0.1 w1.wide.type-inv w1.wide.ensures in
-    let a2 = took g.1.0.1 w2.wide2.type-inv w2.wide2.ensures in
-    let r1 = took g.1.1.0.1 w3.wide3.type-inv w3.wide3.ensures in
-    let r2 = took g.1.1.1.0.1 w4.wide4.type-inv w4.wide4.ensures in
-    let q1 = took g.1.1.0.1 w5.wide5.type-inv w5.wide5.ensures ∙ sym r1 in
-    let q2 = took g.1.1.1.0.1 w6.wide6.type-inv w6.wide6.ensures ∙ sym r2 in
-    let p1 = took g.1.1.1.1.0.1 w7.wide7.type-inv w7.wide7.ensures in
-    let p2 = took g.1.1.1.1.1.0.1 c.wide8.type-inv c.wide8.ensures in (
+    let g = t.struct_told-1.given in
+    let a1 = took g.0.1 w1.wide.type_inv w1.wide.ensures in
+    let a2 = took g.1.0.1 w2.wide-2.type_inv w2.wide-2.ensures in
+    let r1 = took g.1.1.0.1 w3.wide-3.type_inv w3.wide-3.ensures in
+    let r2 = took g.1.1.1.0.1 w4.wide-4.type_inv w4.wide-4.ensures in
+    let q1 = took g.1.1.0.1 w5.wide-5.type_inv w5.wide-5.ensures ∙ sym r1 in
+    let q2 = took g.1.1.1.0.1 w6.wide-6.type_inv w6.wide-6.ensures ∙ sym r2 in
+    let p1 = took g.1.1.1.1.0.1 w7.wide-7.type_inv w7.wide-7.ensures in
+    let p2 = took g.1.1.1.1.1.0.1 c.wide-8.type_inv c.wide-8.ensures in (
       (λ j. record {
         a1 = a1 j;
         a2 = a2 j;
@@ -68,13 +68,13 @@ returns c =
       record {
         a1 = rw a1 s.requires.0;
         a2 = rw a2 s.requires.1;
-        t1 = got32 x1.twice ∙ x1.twice.ensures ∙ (λ j. stop (q1 j +ℤ q1 j));
-        t2 = got32 x2.twice2 ∙ x2.twice2.ensures ∙ (λ j. stop (q2 j +ℤ q2 j));
+        t1 = back32 x1.twice.result x1.twice.type_inv ∙ x1.twice.ensures ∙ (λ j. stop (q1 j +ℤ q1 j));
+        t2 = back32 x2.twice-2.result x2.twice-2.type_inv ∙ x2.twice-2.ensures ∙ (λ j. stop (q2 j +ℤ q2 j));
       },
     )
 
-pub widened-spec : {M : Type 1} → statement M
-widened-spec =
+pub widened_spec : {M : Type 1} → statement M
+widened_spec =
     tie.close
     (tie.spec
     (λ c κs. tt)

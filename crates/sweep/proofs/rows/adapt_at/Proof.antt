@@ -28,15 +28,15 @@ returns c =
     let f = to_z-of_z s.ranges.e in
     let b16 : length b ≡ 16 = search rules in
     let d168 : length d ≡ 168 = search rules in
-    let n = a.adapt.ensures ∙ (λ j. zip_with (upzero (f j)) (r1.eight.ensures j) (r2.eight2.ensures j)) in
+    let n = a.adapt-n.ensures ∙ (λ j. zip_with (upzero (f j)) (r1.eight.ensures j) (r2.eight-2.ensures j)) in
     let p = c.put.ensures ∙ (λ j. take (8 - o) b ++ (n j ++ drop (8 - o + 8) b)) in (
       (λ j. zeros_at (p j) (8 - o) (set (set d (i + 6) (f j)) (i + 8) (pos 0)) (i + 1))
           ∙ adapted_rows b d o i (omega arith) (omega arith) e (omega arith) b16,
       λ q. quiet_on d i (to_z w16 (of_z w16 e)) (omega arith) q,
     )
 
-pub adapt-at-spec : {M : Type 1} → statement M
-adapt-at-spec =
+pub adapt_at_spec : {M : Type 1} → statement M
+adapt_at_spec =
     tie.close
     (tie.spec
     (λ c κs. search rules)

@@ -11,10 +11,10 @@ use Rattle.sweep.proofs.rows.begin.Statement.{statement}
 use Rattle.sweep.proofs.rows.begin.Tie as tie
 
 -- the six are six
-six : (s : tie.Start) → length s.args.t2 ≡ 6
+six : (s : tie.Start) → length s.args.d ≡ 6
 six s = search rules
 
-room : tie.Need-slice-set-of-history-2
+room : tie.Need-slice_set_of-history-2
 room c =
     let s = c.before.before.before.before in
     let h = s.args.history.now in
@@ -26,10 +26,10 @@ returns c =
     let s = c.before.before.before.before in
     let h = s.args.history.now in
     (λ j. take 8 (set (set (c.before.copy.ensures j ++ drop 6 h) 6 (pos 0)) 7 (pos 0)))
-    ∙ history_begun s.args.t2 h (six s) (omega (arith, s.requires))
+    ∙ history_begun s.args.d h (six s) (omega (arith, s.requires))
 
-pub begin-spec : {M : Type 1} → statement M
-begin-spec =
+pub begin_spec : {M : Type 1} → statement M
+begin_spec =
     tie.close
     (tie.spec
     (λ c. search rules)

@@ -13,8 +13,8 @@ returns c =
     let k : s.args.at + 8 - s.args.at ≡ 8 = omega arith in
     c.before.copy.ensures ∙ ap (λ (n : ℕ). take n (drop s.args.at s.args.a.now)) k
 
-pub eight-spec : {M : Type 1} → statement M
-eight-spec =
+pub eight_spec : {M : Type 1} → statement M
+eight_spec =
     tie.close
     (tie.spec
     (λ c. search rules)

@@ -6,7 +6,7 @@ use Rattle.sweep.proofs.rows.gathered.Tie as tie
 
 returns : tie.Need-returns
 unfolding zeros_at
-returns c = λ j. record { b = c.before.before.six.ensures j; d = c.six2.ensures j }
+returns c = λ j. record { b = c.before.before.six-nb.ensures j; d = c.six-nd.ensures j }
 
-pub gathered-spec : {M : Type 1} → statement M
-gathered-spec = tie.close (tie.spec (λ c κs. search rules) (λ c κs. search rules) returns)
+pub gathered_spec : {M : Type 1} → statement M
+gathered_spec = tie.close (tie.spec (λ c κs. search rules) (λ c κs. search rules) returns)

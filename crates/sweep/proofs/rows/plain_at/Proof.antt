@@ -13,7 +13,7 @@ returns c =
     let s = r1.before.before in
     let b16 : length s.args.b.now ≡ 16 = search rules in
     let d168 : length s.args.d.now ≡ 168 = search rules in
-    (c.plain.ensures ∙ (λ j. plain_of (r1.eight.ensures j) (r2.eight2.ensures j)), (b16, d168))
+    (c.plain.ensures ∙ (λ j. plain_of (r1.eight.ensures j) (r2.eight-2.ensures j)), (b16, d168))
 
-pub plain-at-spec : {M : Type 1} → statement M
-plain-at-spec = tie.close (tie.spec (λ c κs. search rules) (λ c κs. search rules) (λ c κs. tt) returns)
+pub plain_at_spec : {M : Type 1} → statement M
+plain_at_spec = tie.close (tie.spec (λ c κs. search rules) (λ c κs. search rules) (λ c κs. tt) returns)

@@ -10,7 +10,7 @@ use Rattle.sweep.proofs.rows.rows.Tie as tie
 returns : tie.Need-returns
 returns c = ap (λ (l : List ℤ). l ++ replicate 10 (pos 0)) c.before.copy.ensures
 
-pub rows-spec : {M : Type 1} → statement M
-rows-spec =
+pub rows_spec : {M : Type 1} → statement M
+rows_spec =
     tie.close
     (tie.spec (λ c. search rules) (λ c. search rules) (λ c. search rules) (λ c κs. search rules) returns)

@@ -13,8 +13,8 @@ returns c =
     let k : s.args.at + 6 - s.args.at ≡ 6 = omega arith in
     c.before.copy.ensures ∙ ap (λ (n : ℕ). take n (drop s.args.at s.args.a.now)) k
 
-pub six-spec : {M : Type 1} → statement M
-six-spec =
+pub six_spec : {M : Type 1} → statement M
+six_spec =
     tie.close
     (tie.spec
     (λ c. search rules)

@@ -17,12 +17,12 @@ use Rattle.sweep.proofs.turn.inverse.Tie as tie
 
 module _ (c : tie.After-wide) where
   q : to_z w32 (of_z w32 c.wide.result) ≡ c.before.args.q
-  q = widened c.wide.type-inv c.wide.ensures c.before.ranges.q
+  q = widened c.wide.type_inv c.wide.ensures c.before.ranges.q
 
   small : nat_abs c.before.args.scale ≤ 32768
   small = omega (arith, abs_mag c.before.args.scale, c.before.requires.1)
 
-mul-result : tie.Need-overflow-mul-result
+mul-result : tie.Need-overflow_mul-result
 mul-result c =
     let s = c.before in
     rw (q c, to_z-of_z s.ranges.scale) (fits_abs (omega (arith, abs_mul s.args.q s.args.scale, mul-le-mul s.requires.0 (small c))))
@@ -37,5 +37,5 @@ returns c =
     rw (to_z-of_z m, to_z-of_z (shr_fits 32768 m), q c, to_z-of_z s.ranges.scale)
     (sym (mul_plain k x (omega (arith, h)) s.requires.1), omega (arith, mag_abs (shr_z (x *ℤ k) 32768), scaled_abs x k (small c), h))
 
-pub inverse-spec : {M : Type 1} → statement M
-inverse-spec = tie.close (tie.spec (λ c κs. tt) mul-result returns)
+pub inverse_spec : {M : Type 1} → statement M
+inverse_spec = tie.close (tie.spec (λ c κs. tt) mul-result returns)

@@ -9,7 +9,7 @@ use lib.ListN.{get_or}
 use mir.Syntax.{w16, w32}
 use mir.Val.{to_z, of_z}
 use mir.Facts.{to_z-of_z}
-use Rattle.laws.specs.Back.{back16, back32, got32}
+use Rattle.laws.specs.Back.{back16, back32}
 use Rattle.laws.specs.Size.{sum_fits, abs_add, abs_mag}
 use Rattle.g722.specs.Arithmetic.{stop, add, mul}
 use Rattle.g722.specs.Band.{next_poles}
@@ -21,49 +21,49 @@ use Rattle.sweep.proofs.turn.turn.Statement.{statement}
 use Rattle.sweep.proofs.turn.turn.Tie as tie
 
 -- the output and the scale as they are read
-output : (c : tie.After-inverse-arg)
+output : (c : tie.After-inverse-arg-1)
     → let a = c.before.args in
     to_z w16 (of_z w16 (get_or a.q.now a.word (pos 0))) ≡ output_at a.high 3 a.word
 output c =
     let s = c.before in
     let a = s.args in
-    back16 (get_or a.q.now a.word (pos 0)) c.inverse-arg.given
+    back16 (get_or a.q.now a.word (pos 0)) c.inverse-arg-1.given
     ∙ ap (λ (l : List ℤ). get_or l a.word (pos 0)) s.requires.0.outputs
     ∙ outputs_at a.high 3 a.word s.requires.1.1.1.2
 
-scale : (c : tie.After-struct-told) → let f = c.before.before.args.f in to_z w32 (of_z w32 f.scale) ≡ f.scale
-scale c = back32 c.before.before.args.f.scale c.struct_told.given.1.0.1
+scale : (c : tie.After-struct_told-1) → let f = c.before.before.args.f in to_z w32 (of_z w32 f.scale) ≡ f.scale
+scale c = back32 c.before.before.args.f.scale c.struct_told-1.given.1.0.1
 
-inverse-requires : tie.Need-inverse-requires
+inverse-requires : tie.Need-inverse-d-requires
 inverse-requires c κs =
     let s = c.before.before in
     (rw (output c.before) (output_small s.args.high 3 s.args.word), rw (scale c) s.requires.1.1.0.scale)
 
 -- the difference
-difference : (c : tie.After-inverse)
+difference : (c : tie.After-inverse-d)
     → let a = c.before.before.before.args in
-    c.inverse.result ≡ mul a.f.scale (output_at a.high 3 a.word)
-difference c = c.inverse.ensures.0 ∙ (λ j. mul (scale c.before j) (output c.before.before j))
+    c.inverse-d.result ≡ mul a.f.scale (output_at a.high 3 a.word)
+difference c = c.inverse-d.ensures.0 ∙ (λ j. mul (scale c.before j) (output c.before.before j))
 
-add-next : tie.Need-overflow-add-next
+add-next : tie.Need-overflow_add-d
 add-next c =
     let s = c.before.before.before in
-    rw (got32 c.inverse, to_z-of_z s.ranges.sz)
-    (sum_fits {a = c.inverse.result} (record { sfits = c.inverse.ensures.1 }) (record { sfits = s.requires.1.1.1.0 }))
+    rw (back32 c.inverse-d.result c.inverse-d.type_inv, to_z-of_z s.ranges.sz)
+    (sum_fits {a = c.inverse-d.result} (record { sfits = c.inverse-d.ensures.1 }) (record { sfits = s.requires.1.1.1.0 }))
 
-add-next-2 : tie.Need-overflow-add-next-2
+add-next-2 : tie.Need-overflow_add-s
 add-next-2 c =
     let s = c.before.before.before in
-    rw (got32 c.inverse, to_z-of_z s.ranges.s)
-    (sum_fits {a = s.args.s} (record { sfits = s.requires.1.1.1.1 }) (record { sfits = c.inverse.ensures.1 }))
+    rw (back32 c.inverse-d.result c.inverse-d.type_inv, to_z-of_z s.ranges.s)
+    (sum_fits {a = s.args.s} (record { sfits = s.requires.1.1.1.1 }) (record { sfits = c.inverse-d.ensures.1 }))
 
 next-requires : tie.Need-next-requires
 next-requires c κs =
     let s = c.before.before.before in
-    let r = c.inverse.result in (
+    let r = c.inverse-d.result in (
       s.requires.1.0,
-      rw (to_z-of_z (add-next-2 c), got32 c.inverse, to_z-of_z s.ranges.s)
-          (omega (arith, abs_add s.args.s r, abs_mag s.args.s, abs_mag r, s.requires.1.1.1, c.inverse.ensures.1)),
+      rw (to_z-of_z (add-next-2 c), back32 c.inverse-d.result c.inverse-d.type_inv, to_z-of_z s.ranges.s)
+          (omega (arith, abs_add s.args.s r, abs_mag s.args.s, abs_mag r, s.requires.1.1.1, c.inverse-d.ensures.1)),
     )
 
 returns : tie.Need-returns
@@ -74,16 +74,16 @@ returns c =
     let i = n.before in
     let s = i.before.before.before in
     let a = s.args in
-    let d = got32 i.inverse ∙ difference i in
+    let d = back32 i.inverse-d.result i.inverse-d.type_inv ∙ difference i in
     let p = to_z-of_z (add-next i) ∙ (λ j. d j +ℤ to_z-of_z s.ranges.sz j) in
     let r = to_z-of_z (add-next-2 i) ∙ (λ j. to_z-of_z s.ranges.s j +ℤ d j) in
-    let w = back16 (get_or a.w.now (a.word / 4) (pos 0)) t.weighed-arg.given
+    let w = back16 (get_or a.w.now (a.word / 4) (pos 0)) t.weighed-arg-1.given
     ∙ ap (λ (l : List ℤ). get_or l (a.word / 4) (pos 0)) s.requires.0.weights
     ∙ weights_at a.high (a.word / 4) (omega (arith, s.requires.1.1.1.2)) in (
       (λ j. record {
         d =
-            (ap (λ (z : ℤ). to_z w16 (of_z w16 z)) (got32 i.inverse)
-            ∙ back16 i.inverse.result i.inverse.ensures.1
+            (ap (λ (z : ℤ). to_z w16 (of_z w16 z)) (back32 i.inverse-d.result i.inverse-d.type_inv)
+            ∙ back16 i.inverse-d.result i.inverse-d.ensures.1
             ∙ difference i) j;
         poles = (n.next.ensures.0 ∙ (λ k. next_poles (poles_of a.p) (stop (p k)) (stop (r k)))) j;
         factors = (c.weighed.ensures.0 ∙ ap (λ (z : ℤ). weighed a.high z (factors_of a.f)) w) j;

@@ -7,13 +7,13 @@ use Rattle.tables.specs.Entries.{above_table}
 use Rattle.tables.proofs.entries.qq2_at.Statement.{statement}
 use Rattle.tables.proofs.entries.qq2_at.Tie as tie
 
-returns : tie.Need-returns
+returns : tie.Need-returns-then-k-lt3
 unfolding qq2
 returns c = refl
 
-returns-2 : tie.Need-returns-2
+returns-2 : tie.Need-returns
 unfolding qq2
 returns-2 c = above_table qq2 0 c.before.args.k (omega arith)
 
-pub qq2-at-spec : {M : Type 1} → statement M
-qq2-at-spec = tie.close (tie.spec (λ c. search rules) (λ c. search rules) returns returns-2)
+pub qq2_at_spec : {M : Type 1} → statement M
+qq2_at_spec = tie.close (tie.spec (λ c. search rules) (λ c. search rules) returns returns-2)

@@ -7,13 +7,13 @@ use Rattle.tables.specs.Entries.{above_table}
 use Rattle.tables.proofs.entries.qq4_at.Statement.{statement}
 use Rattle.tables.proofs.entries.qq4_at.Tie as tie
 
-returns : tie.Need-returns
+returns : tie.Need-returns-then-k-lt8
 unfolding qq4
 returns c = refl
 
-returns-2 : tie.Need-returns-2
+returns-2 : tie.Need-returns
 unfolding qq4
 returns-2 c = above_table qq4 0 c.before.args.k (omega arith)
 
-pub qq4-at-spec : {M : Type 1} → statement M
-qq4-at-spec = tie.close (tie.spec (λ c. search rules) (λ c. search rules) returns returns-2)
+pub qq4_at_spec : {M : Type 1} → statement M
+qq4_at_spec = tie.close (tie.spec (λ c. search rules) (λ c. search rules) returns returns-2)

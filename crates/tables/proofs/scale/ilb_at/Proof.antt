@@ -11,8 +11,8 @@ returns c =
     let k = c.before.args.k in
     ap (λ (w : ℕ). w / 2 ^ (16 * (k % 4)) % 65536) c.row.ensures ∙ entry_of_row k (search rules)
 
-pub ilb-at-spec : {M : Type 1} → statement M
-ilb-at-spec =
+pub ilb_at_spec : {M : Type 1} → statement M
+ilb_at_spec =
     tie.close
     (tie.spec (λ c κs. search rules) (λ c. search rules) (λ c. search rules) (λ c. search rules) (λ c. search rules) (λ c. search rules)
     returns)
