@@ -1,4 +1,2 @@
--- What the walks share, and the table of answers.
-pub mod Table
-pub mod Stored
+-- What this crate proves of its functions together.
 pub mod Unique

@@ -11,25 +11,25 @@ use Rattle.words.proofs.from_four.Tie as tie
 returns : tie.Need-returns-in-0
 unfolding from_four
 returns c =
-    let w = c.before.args.w in
+    let w = c.args.w in
     simp (lt-ltb w 1 (omega arith))
 
 returns-2 : tie.Need-returns-in-1-to-7
 unfolding from_four
 returns-2 c =
-    let w = c.before.before.args.w in
+    let w = c.args.w in
     simp (le-ltb w 1 (omega arith), lt-ltb w 8 (omega arith))
 
 returns-3 : tie.Need-returns-in-8-to-15
 unfolding from_four
 returns-3 c =
-    let w = c.before.before.before.args.w in
+    let w = c.args.w in
     simp (le-ltb w 1 (omega arith), le-ltb w 8 (omega arith))
 
 returns-4 : tie.Need-returns-in_default
 unfolding from_four
 returns-4 c =
-    let w = c.before.before.before.args.w in
+    let w = c.args.w in
     let none : 15 - w ≡ 0 = omega arith in
     simp (le-ltb w 1 (omega arith), le-ltb w 8 (omega arith), none)
 

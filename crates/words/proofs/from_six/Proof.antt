@@ -11,31 +11,31 @@ use Rattle.words.proofs.from_six.Tie as tie
 returns : tie.Need-returns-in-0-to-3
 unfolding from_six
 returns c =
-    let w = c.before.args.w in
+    let w = c.args.w in
     simp (lt-ltb w 4 (omega arith))
 
 returns-2 : tie.Need-returns-in-4-to-31
 unfolding from_six
 returns-2 c =
-    let w = c.before.before.args.w in
+    let w = c.args.w in
     simp (le-ltb w 4 (omega arith), lt-ltb w 32 (omega arith))
 
 returns-3 : tie.Need-returns-in-32-to-61
 unfolding from_six
 returns-3 c =
-    let w = c.before.before.before.args.w in
+    let w = c.args.w in
     simp (le-ltb w 4 (omega arith), le-ltb w 32 (omega arith), lt-ltb w 62 (omega arith))
 
 returns-4 : tie.Need-returns-in-62-to-63
 unfolding from_six
 returns-4 c =
-    let w = c.before.before.before.before.args.w in
+    let w = c.args.w in
     simp (le-ltb w 4 (omega arith), le-ltb w 32 (omega arith), le-ltb w 62 (omega arith))
 
 returns-5 : tie.Need-returns-in_default
 unfolding from_six
 returns-5 c =
-    let w = c.before.before.before.before.args.w in
+    let w = c.args.w in
     let none : 64 - w ≡ 0 = omega arith in
     simp (le-ltb w 4 (omega arith), le-ltb w 32 (omega arith), le-ltb w 62 (omega arith), none)
 

@@ -11,19 +11,19 @@ use Rattle.words.proofs.from_two.Tie as tie
 returns : tie.Need-returns-in-0-to-1
 unfolding from_two
 returns c =
-    let w = c.before.args.w in
+    let w = c.args.w in
     simp (lt-ltb w 2 (omega arith))
 
 returns-2 : tie.Need-returns-in-2-to-3
 unfolding from_two
 returns-2 c =
-    let w = c.before.before.args.w in
+    let w = c.args.w in
     simp (le-ltb w 2 (omega arith))
 
 returns-3 : tie.Need-returns-in_default
 unfolding from_two
 returns-3 c =
-    let w = c.before.before.args.w in
+    let w = c.args.w in
     let none : 4 - w ≡ 0 = omega arith in
     simp (le-ltb w 2 (omega arith), none)
 

@@ -11,34 +11,34 @@ use Rattle.words.proofs.to_six.Tie as tie
 returns : tie.Need-returns-in-0-to-2
 unfolding to_six
 returns c =
-    let w = c.before.before.args.v.number in
-    simp (c.before.if-v.true, lt-ltb w 3 (omega arith))
+    let w = c.args.v.number in
+    simp (c.if-v.true, lt-ltb w 3 (omega arith))
 
 returns-2 : tie.Need-returns-in-3-to-34
 unfolding to_six
 returns-2 c =
-    let w = c.before.before.before.args.v.number in
-    simp (c.before.before.if-v.true, le-ltb w 3 (omega arith))
+    let w = c.args.v.number in
+    simp (c.if-v.true, le-ltb w 3 (omega arith))
 
 returns-3 : tie.Need-returns-in_default
 unfolding to_six
 returns-3 c =
-    let w = c.before.before.before.args.v.number in
+    let w = c.args.v.number in
     let none : 34 - w ≡ 0 = omega arith in
-    simp (c.before.before.if-v.true, le-ltb w 3 (omega arith), none)
+    simp (c.if-v.true, le-ltb w 3 (omega arith), none)
 
 returns-4 : tie.Need-returns-in-0-to-62
 unfolding to_six
 returns-4 c =
-    let w = c.before.before.args.v.number in
-    simp c.before.if-v.false
+    let w = c.args.v.number in
+    simp c.if-v.false
 
 returns-5 : tie.Need-returns-in_default-m
 unfolding to_six
 returns-5 c =
-    let w = c.before.before.args.v.number in
+    let w = c.args.v.number in
     let none : 62 - w ≡ 0 = omega arith in
-    simp (c.before.if-v.false, none)
+    simp (c.if-v.false, none)
 
 pub to_six_spec : {M : Type 1} → statement M
 to_six_spec =

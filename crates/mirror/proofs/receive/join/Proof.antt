@@ -15,7 +15,7 @@ use Rattle.mirror.proofs.receive.join.Tie as tie
 returns : tie.Need-returns-then-not-fits
 unfolding join_block
 returns c =
-    let e = sym c.before.fits2.ensures ∙ not-true _ c.if-not-fits.true-raw in
+    let e = sym c.before.fits.ensures ∙ not-true _ c.if-not-fits.true-raw in
     record { answer = rw e; left = rw e }
 
 -- past the test
@@ -24,7 +24,7 @@ module _ (e : tie.Else-not-fits) where
   start = e.before.before
 
   fit : block_fits (length start.args.samples.now) (length start.args.low.now) (length start.args.high.now) ≡ true
-  fit = sym e.before.fits2.ensures ∙ not-false _ e.if-not-fits.left
+  fit = sym e.before.fits.ensures ∙ not-false _ e.if-not-fits.false-raw
 
   rl-long : length start.args.past.rl ≡ 11
   rl-long = search rules

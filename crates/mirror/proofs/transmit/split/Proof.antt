@@ -16,7 +16,7 @@ use Rattle.mirror.proofs.transmit.split.Tie as tie
 returns : tie.Need-returns-then-not-fits
 unfolding split_block
 returns c =
-    let e = sym c.before.fits2.ensures ∙ not-true _ c.if-not-fits.true-raw in
+    let e = sym c.before.fits.ensures ∙ not-true _ c.if-not-fits.true-raw in
     record { answer = rw e; left = rw e }
 
 -- past the test
@@ -25,7 +25,7 @@ module _ (e : tie.Else-not-fits) where
   start = e.before.before
 
   fit : block_fits (length start.args.samples.now) (length start.args.low.now) (length start.args.high.now) ≡ true
-  fit = sym e.before.fits2.ensures ∙ not-false _ e.if-not-fits.left
+  fit = sym e.before.fits.ensures ∙ not-false _ e.if-not-fits.false-raw
 
   past-long : length start.args.past ≡ 22
   past-long = search rules
