@@ -18,7 +18,7 @@ room : tie.Need-slice_set_of-history-2
 room c =
     let s = c.before.before.before.before in
     let h = s.args.history.now in
-    let six : length c.before.copy.new.0 ≡ 6 = c.before.copy.auto.0 ∙ length-take-le 6 h (omega (arith, s.requires)) in
+    let six : length c.before.copy.new.to ≡ 6 = c.before.copy.auto.to ∙ length-take-le 6 h (omega (arith, s.requires)) in
     simp (length-set, length-append, length-drop) (omega (arith, s.requires))
 
 returns : tie.Need-returns
