@@ -38,7 +38,7 @@ loop-again c =
 returns-2 : tie.Need-returns invariant-loop decreases-loop
 unfolding all_zero
 returns-2 c =
-    let h : length c.before.before.args.bytes.now ≤ c.before.loop-i.i = omega arith in
+    let h : length c.args.bytes.now ≤ c.before.loop-i.i = omega arith in
     sym (rw (drop_of_length-le _ h) at c.before.loop-i.invariant.1)
 
 pub all_zero_spec : {M : Type 1} → statement M

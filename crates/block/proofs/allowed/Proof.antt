@@ -9,14 +9,14 @@ returns : tie.Need-returns-then-between
 unfolding allowed
 returns c =
     let d = c.before.before in
-    let e : between 1 3 d.before.args.mode ≡ true = sym d.between.ensures ∙ c.before.if-between.true in
+    let e : between 1 3 d.args.mode ≡ true = sym d.between.ensures ∙ c.before.if-between.true in
     rw e c.between-then-between.ensures
 
 returns-2 : tie.Need-returns
 unfolding allowed
 returns-2 c =
     let d = c.before in
-    let e : between 1 3 d.before.args.mode ≡ false = sym d.between.ensures ∙ c.if-between.false in
+    let e : between 1 3 d.args.mode ≡ false = sym d.between.ensures ∙ c.if-between.false in
     rw e
 
 pub allowed_spec : {M : Type 1} → statement M

@@ -11,7 +11,7 @@ returns c = rw (le-leb _ _ c.if-lo-x.true)
 
 returns-2 : tie.Need-returns
 unfolding between
-returns-2 c = let a = c.before.args in rw (lt-leb a.lo a.x (omega arith))
+returns-2 c = let a = c.args in rw (lt-leb a.lo a.x (omega arith))
 
 pub between_spec : {M : Type 1} → statement M
 between_spec = tie.close (tie.spec returns returns-2)

@@ -36,7 +36,7 @@ returns : tie.Need-returns invariant-loop decreases-loop
 unfolding check_from
 returns c =
     let l = c.before.loop-i in
-    let h : length c.before.before.before.args.bytes.now ≤ l.i = omega arith in
+    let h : length c.args.bytes.now ≤ l.i = omega arith in
     rw (drop_of_length-le _ h) at l.invariant.1
 
 pub check_spec : {M : Type 1} → statement M

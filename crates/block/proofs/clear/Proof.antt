@@ -24,7 +24,7 @@ loop-again c =
 returns : tie.Need-returns invariant-loop decreases-loop
 returns c =
     let l = c.before.loop-i in
-    let e : l.i ≡ length c.before.before.args.to.now = omega arith in
+    let e : l.i ≡ length c.args.to.now = omega arith in
     rw (e, drop-length, append-nil) at l.invariant.2
 
 pub clear_spec : {M : Type 1} → statement M

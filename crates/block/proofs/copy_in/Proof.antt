@@ -29,7 +29,7 @@ loop-again c =
 returns : tie.Need-returns invariant-loop decreases-loop
 returns c =
     let l = c.before.loop-i in
-    sym (take_all l.i l.to (omega arith)) ∙ l.invariant.2 ∙ take_all l.i c.before.before.args.from.now (omega arith)
+    sym (take_all l.i l.to (omega arith)) ∙ l.invariant.2 ∙ take_all l.i c.args.from.now (omega arith)
 
 pub copy_in_spec : {M : Type 1} → statement M
 copy_in_spec =

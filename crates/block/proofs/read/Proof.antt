@@ -18,8 +18,8 @@ returns : tie.Need-returns-then-b-ne512
 returns c = c.refused.ensures ∙ sym (read_6 _ c.before.if-b-ne512.true)
 
 -- the code's test of the check is the definition's
-tested : (c : tie.After-well-formed)
-    → let b = c.before.before.before.before.before.before.args.b.now in
+tested : (c : tie.After-well_formed-formed)
+    → let b = c.args.b.now in
     eqb c.before.before.check.result c.before.two_at.result ≡ eqb (check (take 510 b)) (two_at b 510)
 tested c = ap₂ eqb c.before.before.check.ensures c.before.two_at.ensures
 
@@ -27,12 +27,12 @@ returns-2 : tie.Need-returns-then-not-right
 returns-2 c =
     let w = c.before.before in
     let l = w.before.before.before.before in
-    let b = l.before.before.args.b.now in
+    let b = l.args.b.now in
     let wrong : eqb (check (take 510 b)) (two_at b 510) ≡ false = sym (tested w) ∙ not-true _ c.before.if-not-right.true-raw in
     c.refused-then-not-right.ensures ∙ sym (read_7 _ l.if-b-ne512.false (eqb-false _ _ wrong))
 
 -- the check is right
-right : (c : tie.Else-not-right) → let b = c.before.before.before.before.before.before.before.args.b.now in
+right : (c : tie.Else-not-right) → let b = c.args.b.now in
     check (take 510 b) ≡ two_at b 510
 right c = eqb-true _ _ (sym (tested c.before) ∙ not-false _ c.if-not-right.false-raw)
 
@@ -40,7 +40,7 @@ returns-3 : tie.Need-returns-then-not-formed
 returns-3 c =
     let d = c.before.before in
     let l = d.before.before.before.before.before in
-    let f : well_formed l.before.before.args.b.now ≡ false = sym d.before.well-formed-2.ensures
+    let f : well_formed l.args.b.now ≡ false = sym d.before.well_formed-formed.ensures
     ∙ not-true _ c.before.if-not-formed.true-raw in
     c.refused-then-not-formed.ensures ∙ sym (read_8 _ l.if-b-ne512.false (right d) (λ h. no (sym (formed_within _ l.if-b-ne512.false h) ∙ f)))
 
@@ -49,7 +49,7 @@ returns-4 c =
     let e = c.before.before.before.before in
     let d = e.before in
     let l = d.before.before.before.before.before in
-    let f : well_formed l.before.before.args.b.now ≡ true = sym d.before.well-formed-2.ensures ∙ not-false _ e.if-not-formed.false-raw in
+    let f : well_formed l.args.b.now ≡ true = sym d.before.well_formed-formed.ensures ∙ not-false _ e.if-not-formed.false-raw in
     rw (read_done _ l.if-b-ne512.false (right d) (formed_bytes _ l.if-b-ne512.false f)) (cc)
 
 pub read_spec : {M : Type 1} → statement M

@@ -19,14 +19,14 @@ returns c =
 
 -- the mode and the count are allowed
 within : (c : tie.Else-not-allowed) → let t = c.before.before.before in
-    allowed (get_or t.before.before.args.b.now 8 0) t.two_at-count.result ≡ true
+    allowed (get_or t.args.b.now 8 0) t.two_at-count.result ≡ true
 within c = sym c.before.allowed.ensures ∙ not-false _ c.if-not-allowed.false-raw
 
 returns-2 : tie.Need-returns-then-b-ne0
 unfolding well_formed
 returns-2 c =
     let d = c.before.before in
-    let b = d.before.before.before.before.before.args.b.now in
+    let b = d.args.b.now in
     let nine : eqb (get_or b 9 0) 0 ≡ false = ne_eqb _ 0 c.if-b-ne0.true in
     rw (← d.before.before.before.two_at-count.ensures, within d, nine)
 
@@ -39,7 +39,7 @@ unfolding well_formed
 returns-3 c =
     let e = c.before.before in
     let d = e.before.before in
-    let b = d.before.before.before.before.before.args.b.now in
+    let b = d.args.b.now in
     let nine : eqb (get_or b 9 0) 0 ≡ true = eq-eqb _ 0 e.if-b-ne0.false in
     rw (← d.before.before.before.two_at-count.ensures, within d, nine) c.all_zero.ensures
 

@@ -16,22 +16,22 @@ use Rattle.block.proofs.write.Tie as tie
 returns : tie.Need-returns-then-not-whole
 returns c =
     let t = c.before in
-    let e : eqb (length t.before.before.before.before.args.out.now) 512 ≡ false = not-true _ t.if-not-whole.true-raw in
+    let e : eqb (length t.args.out.now) 512 ≡ false = not-true _ t.if-not-whole.true-raw in
     does (write_6 _ _ _ _ _ (eqb-false _ 512 e)) c.numbered.ensures refl
 
 -- the lent memory is a whole block
-whole : (c : tie.Else-not-whole) → length c.before.before.before.before.args.out.now ≡ 512
+whole : (c : tie.Else-not-whole) → length c.args.out.now ≡ 512
 whole c = eqb-true _ 512 (not-false _ c.if-not-whole.false-raw)
 
 returns-2 : tie.Need-returns-then-not-fits
 returns-2 c =
     let t = c.before in
-    let a = t.before.before.before.before.before.args in
+    let a = t.args in
     let f : allowed a.mode (length a.octets.now) ≡ false = sym t.before.before.allowed-fits.ensures ∙ not-true _ t.if-not-fits.true-raw in
     does (write_8 _ _ _ _ _ (whole t.before) (λ h. no (sym (allowed_within _ _ h) ∙ f))) c.numbered-then-not-fits.ensures refl
 
 -- the mode and the count are allowed
-within : (c : tie.Else-not-fits) → let a = c.before.before.before.before.before.args in Allowed a.mode (length a.octets.now)
+within : (c : tie.Else-not-fits) → let a = c.args in Allowed a.mode (length a.octets.now)
 within c = allowed_bounds _ _ (sym c.before.before.allowed-fits.ensures ∙ not-false _ c.if-not-fits.false-raw)
 
 put-requires : tie.Need-put-requires

@@ -8,7 +8,7 @@ use Rattle.coder.proofs.block.Tie as tie
 
 in-turn-requires : tie.Need-in_turn-requires
 in-turn-requires c κs =
-    let p = c.before.before.before.before.before.requires in
+    let p = c.requires in
     (p.0, (p.1.0, (length-take-le _ _ p.0, (length-take-le _ _ p.0, (length-take-le _ _ p.0, p.1.1)))))
 
 pub block_spec : {M : Type 1} → statement M

@@ -22,7 +22,7 @@ returns c =
 
 -- past the first test
 fits : (e : tie.Else-unfit)
-    → let args = e.before.before.before.before.args in misfit (length args.samples.now) (length args.octets.now) ≡ false
+    → let args = e.args in misfit (length args.samples.now) (length args.octets.now) ≡ false
 fits e = sym e.before.before.misfit-unfit.ensures ∙ e.if-unfit.false
 
 returns-2 : tie.Need-returns-then-not-good
@@ -33,7 +33,7 @@ returns-2 c =
     c.refused-then-not-good.ensures refl
 
 -- past the second
-from-good : (e : tie.Else-not-good) → good_coder e.before.before.before.before.before.args.c ≡ true
+from-good : (e : tie.Else-not-good) → good_coder e.args.c ≡ true
 from-good e = sym e.before.before.good_coder-good.ensures ∙ not-false _ e.if-not-good.false-raw
 
 returns-3 : tie.Need-returns-then-not-all_in_range
@@ -43,7 +43,7 @@ returns-3 c =
     let t = b.before in
     let g = t.before.before in
     let bad = some_bad _ (sym t.before.all_in_range.ensures ∙ not-true _ t.if-not-all_in_range.true-raw) in
-    let args = g.before.before.before.before.before.args in
+    let args = g.args in
     does (call_bad _ _ _ (fits g.before) (from-good g) bad)
     (c.refused-then-not-all_in_range.ensures ∙ ap (λ (n : ℕ). record { number = 4; index = n; limited = 0; next = args.c }) b.first_bad.ensures) refl
 

@@ -75,8 +75,8 @@ loop-again c =
     let b = c.before.before.before.before in
     let l = b.before.before.before in
     let octets = (lp l).loop-at.octets in
-    let y = b.block-t.new.1.1.0 in
-    let same = b.block-t.auto.1.1.0 in
+    let y = b.block-t.new.octets in
+    let same = b.block-t.auto.octets in
     let more = coded_more _ (start l).args.samples.now (on l) (behind l) (lp l).loop-at.invariant.2 b.block-t.ensures in (
       omega (arith, room l),
       part_long (on l) octets y same ∙ (lp l).loop-at.invariant.1,

@@ -27,7 +27,7 @@ returns-2 c =
 
 -- past the second test
 fits : (e : tie.Else-unfit)
-    → let args = e.before.before.before.before.before.args in
+    → let args = e.args in
     misfit (length args.samples.now) (length args.octets.now) ≡ false
 fits e = sym e.before.before.before.misfit-unfit.ensures ∙ e.if-unfit.false
 
@@ -40,7 +40,7 @@ returns-3 c =
     c.refused-then-not-good.ensures refl
 
 -- past the third
-good : (e : tie.Else-not-good) → good_decoder e.before.before.before.before.before.before.args.d ≡ true
+good : (e : tie.Else-not-good) → good_decoder e.args.d ≡ true
 good e = sym e.before.before.before.good_decoder-good.ensures ∙ not-false _ e.if-not-good.false-raw
 
 returns-4 : tie.Need-returns
@@ -48,7 +48,7 @@ returns-4 c =
     let r = c.before in
     let f = r.before.before in
     let e = f.before in
-    let args = e.before.before.before.before.before.before.args in
+    let args = e.args in
     let told = f.in_force.ensures in
     does (call_done _ _ _ _ (omega arith) (fits e.before) (good e))
     (r.run.ensures.answer ∙ ap (λ (m : ℕ). (decoded m args.d args.octets.now).answer) told)

@@ -6,7 +6,7 @@ use Rattle.decoder.proofs.good_decoder.Tie as tie
 
 slice-aggregate-all-in-range-2 : tie.Need-slice_bounds-all_in_range-end-2
 slice-aggregate-all-in-range-2 c =
-    let g = c.before.before.before.before.before.before.before.before.before.before.before.before.well-formed.0.1.1.1.1 in
+    let g = c.before.before.before.before.before.before.before.before.before.before.before.before.well_formed.0.1.1.1.1 in
     search (rules, g)
 
 returns : tie.Need-returns

@@ -69,8 +69,8 @@ loop-again c =
     let l = b.before.before.before in
     let twice : 2 * (lp l).loop-at.at ≤ 2 * to l = omega arith in
     let samples = (lp l).loop-at.samples in
-    let y = b.block-t.new.1.1.1.0 in
-    let same = b.block-t.auto.1.1.1.0 in
+    let y = b.block-t.new.samples in
+    let same = b.block-t.auto.samples in
     let more = decoded_more _ _ (start l).args.octets.now (on l) (lp l).loop-at.invariant.2 b.block-t.ensures in (
       within l,
       part_long twice samples y same ∙ (lp l).loop-at.invariant.1,

@@ -16,20 +16,20 @@ use Rattle.host.proofs.zelcandry_code.Tie as tie
 
 -- the call on the record that the state's bytes hold
 abbrev meant : tie.After-encode_chunk-a → Coder → Outcome Coded (List ℕ)
-meant e r = let a = e.before.before.before.before.before.before.before.args in encode_chunk r a.samples.now a.octets.now
+meant e r = let a = e.args in encode_chunk r a.samples.now a.octets.now
 
 abbrev held : tie.After-encode_chunk-a → Coder
-held e = coder_in e.before.before.before.before.before.before.before.args.state.now
+held e = coder_in e.args.state.now
 
-did : (e : tie.After-encode_chunk-a) → Does (meant e (held e)) e.encode_chunk-a.result e.encode_chunk-a.new.1.1.0
+did : (e : tie.After-encode_chunk-a) → Does (meant e (held e)) e.encode_chunk-a.result e.encode_chunk-a.new.octets
 did e =
-    subst (λ (r : Coder). Does (meant e r) e.encode_chunk-a.result e.encode_chunk-a.new.1.1.0)
+    subst (λ (r : Coder). Does (meant e r) e.encode_chunk-a.result e.encode_chunk-a.new.octets)
     e.before.before.read_coder.ensures e.encode_chunk-a.ensures
 
 packed-requires : tie.Need-packed-answer-requires
 packed-requires c κs =
     let e = c.before.before in
-    let a = e.before.before.before.before.before.before.before.args in
+    let a = e.args in
     omega (arith, ap (λ (r : Coded). r.index) (did e).answer, index_small (coder_in a.state.now) a.samples.now a.octets.now)
 
 returns : tie.Need-returns-then-a-eq0
@@ -38,7 +38,7 @@ returns c =
     let t = c.before.before.before.before in
     let p = t.before.before in
     let e = p.before.before.before in
-    let a = e.before.before.before.before.before.before.before.args in
+    let a = e.args in
     let done = sym (ap (λ (r : Coded). r.number) (did e).answer) ∙ t.if-a-eq0.true in
     moves (λ (r : Coded). r.number) (λ (r : Coded). r.index) (λ (r : Coded). r.limited) (λ (r : Coded). coder_bytes r.next)
     a.state.now (meant e (held e)) (did e) p.packed-answer.ensures t.if-a-eq0.true
@@ -49,7 +49,7 @@ unfolding after_coding code_bytes
 returns-2 c =
     let p = c.before.before in
     let e = p.before.before.before in
-    let a = e.before.before.before.before.before.before.before.args in
+    let a = e.args in
     stays (λ (r : Coded). r.number) (λ (r : Coded). r.index) (λ (r : Coded). r.limited) (λ (r : Coded). coder_bytes r.next)
     a.state.now (meant e (held e)) (did e) p.packed-answer.ensures c.if-a-eq0.false
 

@@ -17,21 +17,21 @@ use Rattle.host.proofs.zelcandry_decode.Tie as tie
 -- the call on the record that the state's bytes hold
 abbrev meant : tie.After-decode_chunk-a → Decoder → Outcome Decoded (List ℕ)
 meant e r =
-    let a = e.before.before.before.before.before.before.before.args in
+    let a = e.args in
     decode_chunk r a.mode a.octets.now a.samples.now
 
 abbrev held : tie.After-decode_chunk-a → Decoder
-held e = decoder_in e.before.before.before.before.before.before.before.args.state.now
+held e = decoder_in e.args.state.now
 
-did : (e : tie.After-decode_chunk-a) → Does (meant e (held e)) e.decode_chunk-a.result e.decode_chunk-a.new.1.1.1.0
+did : (e : tie.After-decode_chunk-a) → Does (meant e (held e)) e.decode_chunk-a.result e.decode_chunk-a.new.bytes
 did e =
-    subst (λ (r : Decoder). Does (meant e r) e.decode_chunk-a.result e.decode_chunk-a.new.1.1.1.0)
+    subst (λ (r : Decoder). Does (meant e r) e.decode_chunk-a.result e.decode_chunk-a.new.bytes)
     e.before.before.read_decoder.ensures e.decode_chunk-a.ensures
 
 packed-requires : tie.Need-packed-answer-requires
 packed-requires c κs =
     let e = c.before.before in
-    let a = e.before.before.before.before.before.before.before.args in
+    let a = e.args in
     let none = index_none (decoder_in a.state.now) a.mode a.octets.now a.samples.now in
     omega (arith, ap (λ (r : Decoded). r.index) (did e).answer, none)
 
@@ -41,7 +41,7 @@ returns c =
     let t = c.before.before.before.before in
     let p = t.before.before in
     let e = p.before.before.before in
-    let a = e.before.before.before.before.before.before.before.args in
+    let a = e.args in
     let done = sym (ap (λ (r : Decoded). r.number) (did e).answer) ∙ t.if-a-eq0.true in
     moves (λ (r : Decoded). r.number) (λ (r : Decoded). r.index) (λ (r : Decoded). r.limited) (λ (r : Decoded). decoder_bytes r.next)
     a.state.now (meant e (held e)) (did e) p.packed-answer.ensures t.if-a-eq0.true
@@ -52,7 +52,7 @@ unfolding after_decoding decode_bytes
 returns-2 c =
     let p = c.before.before in
     let e = p.before.before.before in
-    let a = e.before.before.before.before.before.before.before.args in
+    let a = e.args in
     stays (λ (r : Decoded). r.number) (λ (r : Decoded). r.index) (λ (r : Decoded). r.limited) (λ (r : Decoded). decoder_bytes r.next)
     a.state.now (meant e (held e)) (did e) p.packed-answer.ensures c.if-a-eq0.false
 

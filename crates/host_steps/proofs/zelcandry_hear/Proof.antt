@@ -27,7 +27,7 @@ abbrev held : tie.After-hear_chunk-heard → Decoder
 held e = decoder_in (began e).args.state.now
 
 abbrev left : tie.After-hear_chunk-heard → List ℕ × List ℕ
-left e = (e.hear_chunk-heard.new.1.1.1.0, e.hear_chunk-heard.new.1.1.1.1.0)
+left e = (e.hear_chunk-heard.new.low, e.hear_chunk-heard.new.high)
 
 did : (e : tie.After-hear_chunk-heard) → Does (meant e (held e)) e.hear_chunk-heard.result (left e)
 did e =

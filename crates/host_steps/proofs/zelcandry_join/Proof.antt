@@ -26,9 +26,9 @@ meant e r = let a = (began e).args in join_chunk r a.low.now a.high.now a.sample
 abbrev held : tie.After-join_chunk-joined → Decoder
 held e = decoder_in (began e).args.state.now
 
-did : (e : tie.After-join_chunk-joined) → Does (meant e (held e)) e.join_chunk-joined.result e.join_chunk-joined.new.1.1.1.0
+did : (e : tie.After-join_chunk-joined) → Does (meant e (held e)) e.join_chunk-joined.result e.join_chunk-joined.new.samples
 did e =
-    subst (λ (r : Decoder). Does (meant e r) e.join_chunk-joined.result e.join_chunk-joined.new.1.1.1.0)
+    subst (λ (r : Decoder). Does (meant e r) e.join_chunk-joined.result e.join_chunk-joined.new.samples)
     e.before.before.read_decoder.ensures e.join_chunk-joined.ensures
 
 packed-requires : tie.Need-packed-answer-requires

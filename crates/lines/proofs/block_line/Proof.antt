@@ -20,8 +20,8 @@ returns c =
     let s1 = s2.before in
     let f1 = s1.before in
     let p = f1.before in
-    let a = p.before.before.args in
-    let fits = p.before.before.ranges in
+    let a = p.args in
+    let fits = p.ranges in
     let samples = both (both (both p.put.ensures f1.field-end.ensures) s1.signed_field.ensures) s2.signed_field-samples.ensures in
     finished p.before.empty.ensures.0
     (both (both (both (both samples f2.field.ensures) f3.field-counted.ensures) f4.field-2.ensures) c.decimal.ensures)

@@ -25,8 +25,8 @@ most c = decimal_most 19 c.args.n (omega (arith, c.ranges.n))
 
 -- there is room for the digits that are left
 room : (c : tie.At-loop-rest invariant-loop decreases-loop) → length (decimal c.loop-rest.rest) ≤ c.loop-rest.all.at
-room c = left (decimal c.before.args.n) c.before.requires.sound c.loop-rest.invariant.0 (decimal c.loop-rest.rest) c.loop-rest.invariant.1
-    (omega (arith, most c.before, c.before.requires.room))
+room c = left (decimal c.args.n) c.requires.sound c.loop-rest.invariant.0 (decimal c.loop-rest.rest) c.loop-rest.invariant.1
+    (omega (arith, most c.before, c.requires.room))
 
 put-requires : tie.Need-put-all-requires invariant-loop decreases-loop
 put-requires c κs = record {

@@ -12,16 +12,16 @@ returns : tie.Need-returns-then-z-lt0
 returns c =
     let d = c.before in
     let a = d.before.before in
-    let z = a.before.args.z in
-    let f = to_z-of_z a.before.ranges.z in
+    let z = a.args.z in
+    let f = to_z-of_z a.ranges.z in
     rw (sym (negative z a.size-n.result (rw f at d.before.if-z-lt0.true) (a.size-n.ensures ∙ ap mag f)))
     (both d.decimal.ensures c.put.ensures)
 
 returns-2 : tie.Need-returns
 returns-2 c =
     let a = c.before.before in
-    let z = a.before.args.z in
-    let f = to_z-of_z a.before.ranges.z in
+    let z = a.args.z in
+    let f = to_z-of_z a.ranges.z in
     rw (sym (positive z a.size-n.result (rw f at c.before.if-z-lt0.false) (a.size-n.ensures ∙ ap mag f)))
     (let w = c.decimal-2.ensures in record { sound = w.sound; text = w.text; room = omega (arith, w.room) })
 

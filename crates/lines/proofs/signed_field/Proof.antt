@@ -6,7 +6,7 @@ use Rattle.lines.proofs.signed_field.Statement.{statement}
 use Rattle.lines.proofs.signed_field.Tie as tie
 
 returns : tie.Need-returns
-returns c = rw (to_z-of_z c.before.before.ranges.z) at (both c.before.signed.ensures c.put.ensures)
+returns c = rw (to_z-of_z c.ranges.z) at (both c.before.signed.ensures c.put.ensures)
 
 pub signed_field_spec : {M : Type 1} → statement M
 signed_field_spec = tie.close (tie.spec

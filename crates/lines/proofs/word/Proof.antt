@@ -19,15 +19,15 @@ decreases-loop bytes all₀ i₀ all i = i
 loop-holds : tie.Need-loop-i-init invariant-loop decreases-loop
 loop-holds c = (
   omega arith,
-  c.before.requires.sound,
-  ap (λ (l : List ℕ). l ++ held c.before.args.line)
-      (take-length c.before.args.bytes.now),
+  c.requires.sound,
+  ap (λ (l : List ℕ). l ++ held c.args.line)
+      (take-length c.args.bytes.now),
 )
 
 put-requires : tie.Need-put-all-requires invariant-loop decreases-loop
 put-requires c κs =
     let a = c.before.before in
-    let b = a.before.before.args.bytes.now in
+    let b = a.args.bytes.now in
     let start = a.before.before in
     let after = left b start.requires.sound a.loop-i.invariant.1 (take a.loop-i.i b) a.loop-i.invariant.2 start.requires.room in
     record { sound = a.loop-i.invariant.1; room = omega (arith, length-take-le a.loop-i.i b a.loop-i.invariant.0, after) }
@@ -35,7 +35,7 @@ put-requires c κs =
 loop-again : tie.Need-loop-i-preserved invariant-loop decreases-loop
 loop-again c =
     let a = c.before.before.before in
-    let b = a.before.before.args.bytes.now in
+    let b = a.args.bytes.now in
     let i = a.loop-i.i in
     let e : i ≡ suc (i - 1) = omega arith in (
       omega arith,
@@ -47,9 +47,9 @@ loop-again c =
 returns : tie.Need-returns invariant-loop decreases-loop
 returns c =
     let a = c.before in
-    let b = a.before.before.args.bytes.now in
+    let b = a.args.bytes.now in
     let z : a.loop-i.i ≡ 0 = omega arith in
-    ran b a.before.before.requires.sound a.loop-i.invariant.1 (rw z at a.loop-i.invariant.2) (omega arith)
+    ran b a.requires.sound a.loop-i.invariant.1 (rw z at a.loop-i.invariant.2) (omega arith)
 
 pub word_spec : {M : Type 1} → statement M
 word_spec =

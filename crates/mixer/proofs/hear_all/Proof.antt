@@ -28,7 +28,7 @@ decreases-loop modes octets low₀ high₀ t₀ i₀ i-end low high t i = i-end 
 
 loop-holds : tie.Need-loop-i-init invariant-loop decreases-loop
 loop-holds c =
-    let p = c.before.before.requires in
+    let p = c.requires in
     (zero-le, refl, search rules, none_yet _ _ _, record { long = p.1.1.0; is = refl }, record { long = p.1.1.1; is = refl })
 
 -- a port has its place in each row
@@ -48,8 +48,8 @@ loop-again c =
     let n = c.before in
     let h = n.before.before.before in
     let l = at n in
-    let a = l.before.before.before.args in
-    let p = l.before.before.before.requires in
+    let a = l.args in
+    let p = l.requires in
     let i = l.loop-i.i in
     let v = l.loop-i.invariant in
     let inside : i < length a.decoders = omega arith in
@@ -70,16 +70,16 @@ loop-again c =
     )
 
 same_length : tie.Need-shape_of-low invariant-loop decreases-loop
-same_length c = c.before.loop-i.invariant.4.long ∙ sym c.before.before.before.before.requires.1.1.0
+same_length c = c.before.loop-i.invariant.4.long ∙ sym c.requires.1.1.0
 
 same-length-2 : tie.Need-shape_of-high invariant-loop decreases-loop
-same-length-2 c = c.before.loop-i.invariant.5.long ∙ sym c.before.before.before.before.requires.1.1.1
+same-length-2 c = c.before.loop-i.invariant.5.long ∙ sym c.requires.1.1.1
 
 returns : tie.Need-returns invariant-loop decreases-loop
 returns c =
     let l = c.before in
-    let a = l.before.before.before.args in
-    let p = l.before.before.before.requires in
+    let a = l.args in
+    let p = l.requires in
     let v = l.loop-i.invariant in
     let few : length a.octets.now ≤ length a.decoders = omega arith in
     let low = full v.4 (omega arith) (omega (arith, rls_length a.decoders a.modes.now a.octets.now few p.1.0)) in

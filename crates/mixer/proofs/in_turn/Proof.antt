@@ -11,7 +11,7 @@ use Rattle.mixer.proofs.in_turn.Tie as tie
 
 hear-all-requires : tie.Need-hear_all-heard-requires
 hear-all-requires c κs =
-    let p = c.before.before.before.before.before.before.before.requires in
+    let p = c.requires in
     (p.0, (p.1.0, (p.1.1.0, p.1.1.1.0)))
 
 returns : tie.Need-returns
@@ -19,7 +19,7 @@ unfolding ticked tick_limited desk_after octets_to signals_to
 returns c =
     let s = c.before.before.before.before in
     let h = s.before.before.before.before.before.before in
-    let desk = h.before.before.before.before.before.before.before.before.args.desk in
+    let desk = h.args.desk in
     let heard = h.hear_all-heard.ensures in
     let sent = s.send_all-sent.ensures in
     let signals = ap (λ (l : List ℤ × List ℤ). zip (mixed l.0) (mixed l.1)) heard.left in

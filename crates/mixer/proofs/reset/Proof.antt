@@ -38,14 +38,14 @@ returns : tie.Need-returns-then-unseated
 returns c =
     let u = c.before.before in
     let d = u.before in
-    answered 9 d.before.before.args.ports true d.before.reset-c.ensures d.reset-d.ensures u.unseated.ensures
+    answered 9 d.args.ports true d.before.reset-c.ensures d.reset-d.ensures u.unseated.ensures
     c.before.if-unseated.true refl c.answer.ensures
 
 returns-2 : tie.Need-returns
 returns-2 c =
     let u = c.before.before in
     let d = u.before in
-    answered 0 d.before.before.args.ports false d.before.reset-c.ensures d.reset-d.ensures u.unseated.ensures
+    answered 0 d.args.ports false d.before.reset-c.ensures d.reset-d.ensures u.unseated.ensures
     c.before.if-unseated.false refl c.answer-2.ensures
 
 pub reset_spec : {M : Type 1} → statement M

@@ -37,7 +37,7 @@ decreases-loop low high room₀ all-low all-high t₀ limited₀ i₀ i-end room
 loop-holds : tie.Need-loop-i-init invariant-loop decreases-loop
 unfolding sums_limited
 loop-holds c =
-    let p = c.before.before.before.requires in
+    let p = c.requires in
     (zero-le, p.1.1, search rules, none_yet _ _ _, record { long = p.1.1; is = refl }, none_counted _)
 
 -- the totals, and room for an octet
@@ -121,13 +121,13 @@ add-limited c =
     omega (arith, room_for_two _ _ v.5 (omega (arith, inside s, few s)) (λ j. (s.sent-s.ensures j).limited))
 
 same_length : tie.Need-shape_of-room invariant-loop decreases-loop
-same_length c = c.before.loop-i.invariant.4.long ∙ sym c.before.before.before.before.before.requires.1.1
+same_length c = c.before.loop-i.invariant.4.long ∙ sym c.requires.1.1
 
 returns : tie.Need-returns invariant-loop decreases-loop
 returns c =
     let l = c.before in
-    let a = l.before.before.before.before.args in
-    let p = l.before.before.before.before.requires in
+    let a = l.args in
+    let p = l.requires in
     let v = l.loop-i.invariant in
     let few : length a.low.now ≤ length a.coders = omega arith in
     let pairs = heards_length a.coders a.low.now a.high.now p.1.0 in

@@ -18,7 +18,7 @@ returns c =
 
 -- past the first test
 two-to-eight : (e : tie.Else-no_desk)
-    → unseated e.before.before.before.before.before.before.before.before.args.desk.ports ≡ false
+    → unseated e.args.desk.ports ≡ false
 two-to-eight e = sym e.before.before.before.before.unseated-no_desk.ensures ∙ e.if-no_desk.false
 
 returns-2 : tie.Need-returns-then-unfit
@@ -29,7 +29,7 @@ returns-2 c =
 
 -- past the second
 one_each : (e : tie.Else-unfit)
-    → let a = e.before.before.before.before.before.before.before.before.before.args in
+    → let a = e.args in
     uneven a.desk.ports (length a.modes.now) (length a.octets.now) (length a.room.now) ≡ false
 one_each e = sym e.before.before.before.before.uneven-unfit.ensures ∙ e.if-unfit.false
 
@@ -42,7 +42,7 @@ returns-3 c =
 
 -- past the third
 none_above : (e : tie.Else-no_mode)
-    → any_above e.before.before.before.before.before.before.before.before.before.before.args.modes.now ≡ false
+    → any_above e.args.modes.now ≡ false
 none_above e = sym e.before.before.before.before.any_above-no_mode.ensures ∙ e.if-no_mode.false
 
 returns-4 : tie.Need-returns-then-not-good

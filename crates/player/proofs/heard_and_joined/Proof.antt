@@ -6,10 +6,10 @@ use Rattle.player.proofs.heard_and_joined.Statement.{statement}
 use Rattle.player.proofs.heard_and_joined.Tie as tie
 
 slice-aggregate-in-steps : tie.Need-slice_bounds-in_steps-end
-slice-aggregate-in-steps c = sym (length-take-le _ _ c.before.before.requires.0.0.count_most)
+slice-aggregate-in-steps c = sym (length-take-le _ _ c.requires.0.0.count_most)
 
 slice-aggregate-in-steps-2 : tie.Need-slice_bounds-in_steps-end-2
-slice-aggregate-in-steps-2 c = sym (length-take-le _ _ c.before.before.before.requires.0.0.count_most)
+slice-aggregate-in-steps-2 c = sym (length-take-le _ _ c.requires.0.0.count_most)
 
 in-steps-requires : tie.Need-in_steps-requires
 in-steps-requires c κs =

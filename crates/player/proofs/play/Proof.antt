@@ -21,19 +21,19 @@ returns c =
     does (play_unread _ _ _ _ r.read-read.ensures c.before.if-read-ne0.true) c.not_played.ensures refl
 
 -- the block's bounds
-within : (c : tie.Else-read-ne0) → Bounds c.before.before.before.before.args.b.now c.before.before.read-read.result
-within c = bounds c.before.before.before.before.args.b.now _ c.before.before.read-read.ensures c.if-read-ne0.false
+within : (c : tie.Else-read-ne0) → Bounds c.args.b.now c.before.before.read-read.result
+within c = bounds c.args.b.now _ c.before.before.read-read.ensures c.if-read-ne0.false
 
 -- the samples are enough
 roomy : (c : tie.Else-samples-size) → 2 * c.before.before.before.read-read.result.count ≤ length
-    c.before.before.before.before.before.args.samples.now
+    c.args.samples.now
 roomy c = omega arith
 
 -- and so they are after the call
 long : (c : tie.After-samples-1)
     → let e = c.before.before.before.before.before.before.before.before in
-    2 * e.before.before.read-read.result.count ≤ length (c.before.heard_and_joined-done.new.1.1.1.0 ++ drop
-    (2 * e.before.before.read-read.result.count) e.before.before.before.before.args.samples.now)
+    2 * e.before.before.read-read.result.count ≤ length (c.before.heard_and_joined-done.new.samples ++ drop
+    (2 * e.before.before.read-read.result.count) e.args.samples.now)
 long c = omega (arith, roomy c.before.before.before.before.before.before.before, c.samples-1.given)
 
 mul-size : tie.Need-overflow_mul-size

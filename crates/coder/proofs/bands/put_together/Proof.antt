@@ -26,7 +26,7 @@ loop-again : tie.Need-loop-i-preserved invariant-loop decreases-loop
 unfolding zip_with
 loop-again c =
     let lp = c.before.before.before in
-    let words = lp.before.args.words.now in
+    let words = lp.args.words.now in
     let octets = lp.loop-i.octets in
     let i = lp.loop-i.i in
     let v = lp.loop-i.invariant in
@@ -49,7 +49,7 @@ unfolding zip_with
 returns c =
     let lp = c.before in
     let i = lp.loop-i.i in
-    let words = lp.before.args.words.now in
+    let words = lp.args.words.now in
     let octets = lp.loop-i.octets in
     let all : length words ≤ i = omega arith in
     let none = ap (λ (w : List ℕ). zip_with together w (drop i octets)) (drop_of_length-le words all) in

@@ -32,7 +32,7 @@ returns-2 c =
 
 -- past the second test
 fits : (e : tie.Else-high-low)
-    → let args = e.before.before.before.before.args in
+    → let args = e.args in
     let n = length args.low.now in
     (misfit (length args.samples.now) n || not (eqb (length args.high.now) n)) ≡ false
 fits e =
@@ -50,14 +50,14 @@ module _ (b : tie.After-both) where
   abbrev e : tie.Else-not-good
   e = b.before.before.before
 
-  good : good_decoder e.before.before.before.before.before.args.d ≡ true
-  good = sym e.before.before.before.good_decoder-good.ensures ∙ not-false _ e.if-not-good.left
+  good : good_decoder e.args.d ≡ true
+  good = sym e.before.before.before.good_decoder-good.ensures ∙ not-false _ e.if-not-good.false-raw
 
-  looked : let args = e.before.before.before.before.before.args in
+  looked : let args = e.args in
       b.both.result ≡ (all_in_range args.low.now && all_in_range args.high.now)
   looked = b.both.ensures ∙ λ i. b.before.before.all_in_range.ensures i && b.before.all_in_range-2.ensures i
 
-  even : let args = e.before.before.before.before.before.args in length args.high.now ≡ length args.low.now
+  even : let args = e.args in length args.high.now ≡ length args.low.now
   even = (matched _ _ _ (fits e.before)).0
 
 returns-4 : tie.Need-returns-then-not-both
@@ -67,7 +67,7 @@ returns-4 c =
     let f = l.before in
     let t = f.before.before in
     let b = t.before in
-    let args = (e b).before.before.before.before.before.args in
+    let args = (e b).before.args in
     let bad = some_bad_pair _ _ (even b) (sym (looked b) ∙ not-true _ t.if-not-both.true-raw) in
     let index = l.lesser.ensures ∙ λ i. min (f.before.first_bad.ensures i) (f.first_bad-then-not-both.ensures i) in
     does (join_4 _ _ _ _ (fits (e b).before) (good b) (lt-ltb _ _ bad))
@@ -87,7 +87,7 @@ join-all-requires : tie.Need-join_all-requires
 join-all-requires c κs =
     let n = c.before in
     let b = n.before in
-    let args = (e b).before.before.before.before.before.args in
+    let args = (e b).before.args in
     let low = all_in_range args.low.now in
     let high = all_in_range args.high.now in
     let f = fits (e b).before in

@@ -87,8 +87,8 @@ loop-again c =
     let l = b.before.before.before.before in
     let twice : 2 * (lp l).loop-at.at ≤ 2 * to l = omega arith in
     let samples = (lp l).loop-at.samples in
-    let y = b.join_block-t.new.1.1.1.0 in
-    let same = b.join_block-t.auto.1.1.1.0 in
+    let y = b.join_block-t.new.samples in
+    let same = b.join_block-t.auto.samples in
     let a = (start l).args in
     let more = joined_more _ a.low.now a.high.now (on l) (even l) (lp l).loop-at.invariant.2 b.join_block-t.ensures in (
       within l,

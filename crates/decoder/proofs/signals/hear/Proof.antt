@@ -16,19 +16,19 @@ use Rattle.decoder.proofs.signals.hear.Tie as tie
 
 returns : tie.Need-returns-then-told-gt3
 returns c =
-    let told = c.before.before.before.before.before.args.told in
+    let told = c.args.told in
     does (hear_1 _ _ _ _ _ (lt-ltb 3 told (omega arith))) c.refused.ensures refl
 
 returns-2 : tie.Need-returns-then-unfit
 returns-2 c =
     let t = c.before in
-    let told = t.before.before.before.before.before.args.told in
+    let told = t.args.told in
     does (hear_3 _ _ _ _ _ (le-ltb 3 told (omega arith)) (sym t.before.before.before.unpaired-unfit.ensures ∙ t.if-unfit.true))
     c.refused-then-unfit.ensures refl
 
 -- past the second test
 fits : (e : tie.Else-unfit)
-    → let args = e.before.before.before.before.before.args in
+    → let args = e.args in
     unpaired (length args.octets.now) (length args.low.now) (length args.high.now) ≡ false
 fits e = sym e.before.before.before.unpaired-unfit.ensures ∙ e.if-unfit.false
 
@@ -36,12 +36,12 @@ returns-3 : tie.Need-returns-then-not-good
 returns-3 c =
     let t = c.before in
     let broken = sym t.before.before.before.good_decoder-good.ensures ∙ not-true _ t.if-not-good.true-raw in
-    let told = t.before.before.before.before.before.before.args.told in
+    let told = t.args.told in
     does (hear_2 _ _ _ _ _ (le-ltb 3 told (omega arith)) (fits t.before) broken)
     c.refused-then-not-good.ensures refl
 
 -- past the third
-good : (e : tie.Else-not-good) → good_decoder e.before.before.before.before.before.before.args.d ≡ true
+good : (e : tie.Else-not-good) → good_decoder e.args.d ≡ true
 good e = sym e.before.before.before.good_decoder-good.ensures ∙ not-false _ e.if-not-good.false-raw
 
 returns-4 : tie.Need-returns
@@ -50,7 +50,7 @@ returns-4 c =
     let r = c.before.before in
     let f = r.before.before.before in
     let e = f.before in
-    let args = e.before.before.before.before.before.before.args in
+    let args = e.args in
     let octets = args.octets.now in
     let told = f.in_force.ensures in
     does (hear_0 _ _ _ _ _ (le-ltb 3 args.told (omega arith)) (fits e.before) (good e))

@@ -76,10 +76,10 @@ loop-again c =
     let v = (lp l).loop-at.invariant in
     let low = (lp l).loop-at.low in
     let high = (lp l).loop-at.high in
-    let x = b.hear_block-t.new.1.1.1.0 in
-    let y = b.hear_block-t.new.1.1.1.1.0 in
-    let k = b.hear_block-t.auto.1.1.1.0 in
-    let m = b.hear_block-t.auto.1.1.1.1.0 in
+    let x = b.hear_block-t.new.low in
+    let y = b.hear_block-t.new.high in
+    let k = b.hear_block-t.auto.low in
+    let m = b.hear_block-t.auto.high in
     let more = heard_more _ _ (start l).args.octets.now (on l) v.3 b.hear_block-t.ensures in (
       within l,
       part_long (on l) low x k ∙ v.1,

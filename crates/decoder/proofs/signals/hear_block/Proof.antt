@@ -12,23 +12,23 @@ use Rattle.decoder.proofs.signals.hear_block.Statement.{statement}
 use Rattle.decoder.proofs.signals.hear_block.Tie as tie
 
 -- the signals are as many as the octets, so the counts are small
-small_low : (c : tie.After-hear_band-h) → length c.before.before.before.hear_band-l.new.1.1.1.1.0 ≤ 8000
+small_low : (c : tie.After-hear_band-h) → length c.before.before.before.hear_band-l.new.signals ≤ 8000
 small_low c =
     let l = c.before.before.before in
-    omega (arith, l.hear_band-l.auto.1.1.1.1.0, l.before.before.before.before.before.before.requires)
+    omega (arith, l.hear_band-l.auto.signals, l.requires)
 
-small-high : (c : tie.After-hear_band-h) → length c.hear_band-h.new.1.1.1.1.0 ≤ 8000
+small-high : (c : tie.After-hear_band-h) → length c.hear_band-h.new.signals ≤ 8000
 small-high c =
     let l = c.before.before.before in
-    omega (arith, c.hear_band-h.auto.1.1.1.1.0, l.before.before.before.before.before.before.requires)
+    omega (arith, c.hear_band-h.auto.signals, l.requires)
 
 add-limited : tie.Need-overflow_add-limited
 add-limited c =
     let high = c.before in
     let low = high.before.before.before in
     let h = low.before.before.before in
-    let yls = h.before.before.before.hear_band-l.new.1.1.1.1.0 in
-    let yhs = h.hear_band-h.new.1.1.1.1.0 in
+    let yls = h.before.before.before.hear_band-l.new.signals in
+    let yhs = h.hear_band-h.new.signals in
     omega (
       arith,
       small_low h,

@@ -43,7 +43,7 @@ module _ (c : tie.After-one-limited invariant-loop decreases-loop) where
       let w = c.before.before.before in
       c.before.before.limit-l.ensures ∙ ap limited (back32 w.wide.result w.wide.type_inv ∙ w.wide.ensures ∙ back16 z w.before.wide-arg-1.given)
 
-  counted : at.loop-i.limited + c.one-limited.result + overloads (drop (at.loop-i.i + 1) at.loop-i.x) ≡ overloads at.before.args.x.now
+  counted : at.loop-i.limited + c.one-limited.result + overloads (drop (at.loop-i.i + 1) at.loop-i.x) ≡ overloads at.args.x.now
   unfolding overloads
   counted =
       let n = c.one-limited.ensures ∙ ap (λ (l : Limited). one l.changed) is in

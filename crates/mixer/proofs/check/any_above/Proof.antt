@@ -32,19 +32,19 @@ none modes i h = rw (drop_of_length-le modes h) refl
 returns : tie.Need-returns-then-modes-i-gt3 invariant-loop decreases-loop
 returns c =
     let l = c.before.before.before in
-    let modes = l.before.args.modes.now in
+    let modes = l.args.modes.now in
     sym (found modes l.loop-i.i (omega arith) (omega arith)) ∙ l.loop-i.invariant.2
 
 loop-again : tie.Need-loop-i-preserved invariant-loop decreases-loop
 loop-again c =
     let l = c.before.before.before in
-    let modes = l.before.args.modes.now in
+    let modes = l.args.modes.now in
     (omega arith, l.loop-i.invariant.1, sym (passed modes l.loop-i.i (omega arith) (omega arith)) ∙ l.loop-i.invariant.2)
 
 returns-2 : tie.Need-returns invariant-loop decreases-loop
 returns-2 c =
     let l = c.before in
-    sym (none l.before.args.modes.now l.loop-i.i (omega arith)) ∙ l.loop-i.invariant.2
+    sym (none l.args.modes.now l.loop-i.i (omega arith)) ∙ l.loop-i.invariant.2
 
 pub any_above_spec : {M : Type 1} → statement M
 any_above_spec =

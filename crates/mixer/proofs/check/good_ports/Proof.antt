@@ -58,7 +58,7 @@ used {A} xs n h =
 loop-holds : tie.Need-loop-i-init invariant-loop decreases-loop
 loop-holds c =
     let s = c.before.before.before.before in
-    let fields = s.well-formed.0.1.1 in
+    let fields = s.well_formed.0.1.1 in
     let coders = sym (length-map s.args.desk.coders _) ∙ fields.1.0.1.0.1 in
     let decoders = sym (length-map s.args.desk.decoders _) ∙ fields.1.1.0.1.0.1 in
     (omega arith, coders, decoders, refl)
@@ -71,7 +71,7 @@ loop-again c =
     let k = d.before in
     let l = k.before.before.before.before in
     let n = l.before.before.before.lesser-n in
-    let desk = l.before.before.before.before.before.args.desk in
+    let desk = l.args.desk in
     let v = l.loop-i.invariant in
     let e = c.both-ok.ensures ∙ λ j. l.loop-i.ok && (p.both.ensures ∙ λ q. k.good_coder.ensures q && d.good_decoder.ensures q) j in
     let row = row n.result desk.coders desk.decoders in (
@@ -88,7 +88,7 @@ unfolding good_ports
 returns c =
     let l = c.before in
     let n = l.before.before.before.lesser-n in
-    let desk = l.before.before.before.before.before.args.desk in
+    let desk = l.args.desk in
     let v = l.loop-i.invariant in
     end desk.coders desk.decoders n.result v.1 v.2 (omega arith) l.loop-i.ok l.loop-i.i (omega arith)
     ∙ v.3

@@ -12,7 +12,7 @@ use Rattle.mixer.proofs.sums.others.Statement.{statement}
 use Rattle.mixer.proofs.sums.others.Tie as tie
 
 difference : (c : tie.After-wide)
-    → to_z w32 (of_z w32 c.before.args.all) -ℤ to_z w32 (of_z w32 c.wide.result) ≡ c.before.args.all -ℤ c.before.args.own_val
+    → to_z w32 (of_z w32 c.args.all) -ℤ to_z w32 (of_z w32 c.wide.result) ≡ c.args.all -ℤ c.args.own_val
 difference c =
     let s = c.before in
     λ i. to_z-of_z s.ranges.all i -ℤ widened c.wide.type_inv c.wide.ensures s.ranges.own_val i

@@ -49,7 +49,7 @@ module _ (c : tie.After-wide-sum invariant-loop decreases-loop) where
   at = c.before.before.before
 
   abbrev signal : ℤ
-  signal = get_or at.before.args.signals.now at.loop-i.i (pos 0)
+  signal = get_or at.args.signals.now at.loop-i.i (pos 0)
 
   signal-fits : SFits w16 signal
   signal-fits = record { sfits = c.before.wide-arg-1.given }
@@ -79,7 +79,7 @@ loop-again c =
 returns : tie.Need-returns invariant-loop decreases-loop
 returns c =
     let l = c.before.loop-i in
-    let signals = c.before.before.args.signals.now in
+    let signals = c.args.signals.now in
     (end (to_z w32 l.sum) signals l.i (omega arith) ∙ l.invariant.2, omega arith)
 
 pub total_spec : {M : Type 1} → statement M

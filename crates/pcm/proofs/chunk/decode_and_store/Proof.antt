@@ -15,7 +15,7 @@ returns c =
     let t = c.before.before in
     let n = t.before.before.before in
     let d = n.before.before.before in
-    let a = d.before.before.before.before.args in
+    let a = d.args in
     does
     (decode_done a.d a.told a.octets.now a.bytes.now a.samples.now (omega arith) (omega arith)
     d.decode-r.ensures.answer n.if-r-eq0.true)
@@ -24,7 +24,7 @@ returns c =
 returns-2 : tie.Need-returns-else-r-eq0
 returns-2 c =
     let d = c.before.before.before in
-    let a = d.before.before.before.before.args in
+    let a = d.args in
     does
     (decode_refused a.d a.told a.octets.now a.bytes.now a.samples.now (omega arith) (omega arith)
     d.decode-r.ensures.answer c.if-r-eq0.false)

@@ -14,7 +14,7 @@ returns : tie.Need-returns
 returns c =
     let k = c.before.before in
     let l = k.before.before.before.before in
-    let a = l.before.before.before.before.args in
+    let a = l.args in
     let samples = sym (load_all a.bytes.now a.samples.now (omega arith)) ∙ sym l.load.ensures.left in
     does (ap (λ (s : List ℤ). code_call a.c s a.octets.now) samples)
     k.code.ensures.answer k.code.ensures.left

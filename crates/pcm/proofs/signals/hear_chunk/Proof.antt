@@ -23,7 +23,7 @@ returns-2 c =
     does (hear_unfit _ _ _ _ _ (omega arith) (sym t.before.unpaired.ensures ∙ t.if-unpaired.true)) c.not_decoded-then-unpaired.ensures refl
 
 -- lengths that fit
-fit : (e : tie.Else-unpaired) → let a = e.before.before.before.before.before.before.args in
+fit : (e : tie.Else-unpaired) → let a = e.args in
     (length a.octets.now ≤ 8000) × (length a.low.now ≡ 2 * length a.octets.now)
     × (length a.high.now ≡ 2 * length a.octets.now)
 fit e = fits _ _ _ (sym e.before.unpaired.ensures ∙ e.if-unpaired.false)

@@ -21,11 +21,11 @@ returns c =
     does (join_unfit _ _ _ _ (sym t.before.unpaired.ensures ∙ t.if-unpaired.true)) c.not_decoded.ensures refl
 
 -- lengths that fit
-fit : (e : tie.Else-unpaired) → let a = e.before.before.before.before.before.args in
+fit : (e : tie.Else-unpaired) → let a = e.args in
     unpaired_bytes (length a.low.now / 2) (length a.low.now) (length a.high.now) ≡ false
 fit e = sym e.before.unpaired.ensures ∙ e.if-unpaired.false
 
-few : (e : tie.Else-unpaired) → let a = e.before.before.before.before.before.args in length a.low.now / 2 ≤ 8000
+few : (e : tie.Else-unpaired) → let a = e.args in length a.low.now / 2 ≤ 8000
 few e = (fits _ _ _ (fit e)).0
 
 mul-if2 : tie.Need-overflow_mul-n

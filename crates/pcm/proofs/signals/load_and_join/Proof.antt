@@ -18,7 +18,7 @@ began j = j.before.before.before.before.before.before.before.before.before.befor
 
 -- the call on the signals that the bytes are
 did : (j : tie.After-join-r) → let a = (began j).args in
-    Does (join_call a.d (pcm_samples a.low.now) (pcm_samples a.high.now) a.x.now) j.join-r.result j.join-r.new.1.1.1.0
+    Does (join_call a.d (pcm_samples a.low.now) (pcm_samples a.high.now) a.x.now) j.join-r.result j.join-r.new.samples
 did j =
     let g = j.before.before.before.before.before in
     let f = g.before.before.before in

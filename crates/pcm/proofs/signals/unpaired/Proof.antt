@@ -16,7 +16,7 @@ returns-2 c = sym (other_low _ _ _ (omega arith) c.if-low-n.true)
 
 returns-3 : tie.Need-returns
 unfolding unpaired_bytes
-returns-3 c = let a = c.before.before.args in simp (le-ltb 8000 a.n (omega arith), eq-eqb _ _ c.if-low-n.false)
+returns-3 c = let a = c.args in simp (le-ltb 8000 a.n (omega arith), eq-eqb _ _ c.if-low-n.false)
 
 pub unpaired_spec : {M : Type 1} → statement M
 unpaired_spec = tie.close (tie.spec returns (λ c. search rules) returns-2 (λ c. search rules) returns-3)

@@ -27,11 +27,11 @@ returns c =
     let l3 = t0.before.before in
     let l2 = l3.before.before.before.before in
     let l1 = l2.before.before.before.before in
-    let s = l1.before.before.before.before.args.bytes.now in
-    let rest = l3.load-3.new.1.0 in
+    let s = l1.args.bytes.now in
+    let rest = l3.load-3.new.samples in
     let at : (k : ℕ) → mag (value rest k) < 2 ^ 15 → to_z w16 (of_z w16 (value rest k)) ≡ value rest k = λ k h. back16 (value rest k) h in
     (λ i. record {
-      zeros = record { b = l1.load.new.1.0; d = l2.load-2.new.1.0 };
+      zeros = record { b = l1.load.new.samples; d = l2.load-2.new.samples };
       poles = record {
         a1 = at 0 t0.result-1.given i;
         a2 = at 1 t1.result-2-1.given i;

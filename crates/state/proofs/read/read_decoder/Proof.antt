@@ -18,10 +18,10 @@ returns c =
     no_decoder_lem _ c.before.reset_band.ensures c.reset_band-then-not-holds.ensures (sym t.before.holds.ensures ∙ not-true _ t.if-not-holds.true-raw)
 
 -- past the test
-held : (e : tie.Else-not-holds) → holds 2 e.before.before.before.args.state.now ≡ true
+held : (e : tie.Else-not-holds) → holds 2 e.args.state.now ≡ true
 held e = sym e.before.holds.ensures ∙ not-false _ e.if-not-holds.false-raw
 
-long : (e : tie.Else-not-holds) → length e.before.before.before.args.state.now ≡ 125
+long : (e : tie.Else-not-holds) → length e.args.state.now ≡ 125
 long e = held_length 2 _ (held e)
 
 returns-2 : tie.Need-returns
@@ -30,7 +30,7 @@ returns-2 c =
     let m = b.before.before.before in
     let l = m.before.before.before.before in
     let e = l.before.before.before in
-    let s = e.before.before.before.args.state.now in
+    let s = e.args.state.now in
     let n = long e in
     decoder_read s b.band.ensures c.band-2.ensures (held e)
     (values_behind 40 11 (replicate 11 (pos 0)) s (omega arith) refl l.load.ensures.left)

@@ -13,7 +13,7 @@ use Rattle.state.proofs.Laws.{Front, stored, band_written}
 use Rattle.state.proofs.write.write_band.Statement.{statement}
 use Rattle.state.proofs.write.write_band.Tie as tie
 
-rows : (c : tie.After-d-1) → let z = c.before.before.before.before.args.s.zeros in (length z.b ≡ 6) × (length z.d ≡ 6)
+rows : (c : tie.After-d-1) → let z = c.args.s.zeros in (length z.b ≡ 6) × (length z.d ≡ 6)
 rows c = (search rules, search rules)
 
 returns : tie.Need-returns
@@ -33,7 +33,7 @@ returns c =
     let f0 : Front 40 0 [] st.args.bytes.now = record { long = st.requires; is = refl } in
     let f1 = stored 0 12 s.zeros.b f0 (omega arith) (omega arith) (omega (arith, lb)) s1.store.ensures.left in
     let f2 = stored 12 24 s.zeros.d f1 (omega arith) (omega arith) (omega (arith, ld)) s2.store-2.ensures.left in
-    let behind : List ℕ = put_mid 12 12 (put_mid 0 12 st.args.bytes.now s1.store.new.1.0) s2.store-2.new.1.0 in
+    let behind : List ℕ = put_mid 12 12 (put_mid 0 12 st.args.bytes.now s1.store.new.bytes) s2.store-2.new.bytes in
     let rest : _ ≡ _ = λ i.
     back16 s.poles.a1 g.0.1 i
     ∷ back16 s.poles.a2 g.1.0.1 i

@@ -14,42 +14,42 @@ use Rattle.state.proofs.write.write_bands.Tie as tie
 
 -- the kind and the low band
 low : (c : tie.After-state-1)
-    → let a = c.before.before.before.before.args in
-    let y = c.before.write_band.new.1.0 in
+    → let a = c.args in
+    let y = c.before.write_band.new.bytes in
     Front 125 41 (a.kind ∷ y) (put_mid 1 40 (set a.state.now 0 a.kind) y)
 low c =
     let st = c.before.before.before.before in
     let a = st.args in
     let kind = first 125 a.kind a.state.now (omega arith) st.requires in
-    further 1 41 c.before.write_band.new.1.0 kind (omega arith) (omega arith) (omega arith)
+    further 1 41 c.before.write_band.new.bytes kind (omega arith) (omega arith) (omega arith)
 
 -- and the high band
 high : (c : tie.After-state-2-1)
     → let b = c.before.before.before.before in
-    let a = b.before.before.before.before.args in
-    let y = b.before.write_band.new.1.0 in
-    let z = c.before.write_band-2.new.1.0 in
+    let a = b.args in
+    let y = b.before.write_band.new.bytes in
+    let z = c.before.write_band-2.new.bytes in
     Front 125 81 (a.kind ∷ (y ++ z)) (put_mid 41 40 (put_mid 1 40 (set a.state.now 0 a.kind) y) z)
 high c =
-    further 41 81 c.before.write_band-2.new.1.0 (low c.before.before.before.before) (omega arith) (omega arith) (omega arith)
+    further 41 81 c.before.write_band-2.new.bytes (low c.before.before.before.before) (omega arith) (omega arith) (omega arith)
 
 part-write-band-end : tie.Need-slice_bounds-write_band-end
 part-write-band-end c =
-    let a = c.before.args in
-    let h : 41 ≤ length (set a.state.now 0 a.kind) = rw length-set (omega (arith, c.before.requires)) in
+    let a = c.args in
+    let h : 41 ≤ length (set a.state.now 0 a.kind) = rw length-set (omega (arith, c.requires)) in
     h
 
 part-write-band-end-2 : tie.Need-slice_bounds-write_band-end-2
 part-write-band-end-2 c = omega (arith, (low c.before).long)
 
 same_length : tie.Need-shape_of-state
-same_length c = (high c.before).long ∙ sym c.before.before.before.before.before.before.before.before.before.requires
+same_length c = (high c.before).long ∙ sym c.requires
 
 returns : tie.Need-returns
 returns c =
     let w2 = c.before.before in
     let w1 = w2.before.before.before.before in
-    let a = w1.before.before.before.args in
+    let a = w1.args in
     (high c.before).is ∙ ap (λ (x : List ℕ). a.kind ∷ x)
     ((λ i. w1.write_band.ensures i ++ w2.write_band-2.ensures i) ∙ sym (bytes_join (band_values a.low) (band_values a.high)))
 

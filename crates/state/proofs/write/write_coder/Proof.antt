@@ -14,13 +14,13 @@ use Rattle.state.proofs.write.write_coder.Tie as tie
 returns : tie.Need-returns-then-state-ne125
 returns c = does (unwritten _ _ c.if-state-ne125.true) refl refl
 
-row : (c : tie.After-past-1) → length c.before.before.before.before.before.args.c.past ≡ 22
+row : (c : tie.After-past-1) → length c.args.c.past ≡ 22
 row c = search rules
 
 bands : (c : tie.After-state-1)
     → let w = c.before in
-    let r = w.before.before.before.before.before.before.before.args.c in
-    Front 125 81 (1 ∷ pcm_bytes (band_values r.low ++ band_values r.high)) w.write_bands.new.1.1.1.0
+    let r = w.args.c in
+    Front 125 81 (1 ∷ pcm_bytes (band_values r.low ++ band_values r.high)) w.write_bands.new.state
 bands c = record { long = omega arith; is = c.before.write_bands.ensures }
 
 returns-2 : tie.Need-returns
@@ -29,7 +29,7 @@ returns-2 c =
     let b = s.before.before.before.before in
     let p = b.before.before.before in
     let e = p.before.before.before in
-    let r = e.before.before.args.c in
+    let r = e.args.c in
     let l = row p in
     does (written _ _ e.if-state-ne125.false) refl
     (coder_written r (stored 81 125 r.past (bands b) (omega arith) (omega arith) (omega (arith, l)) s.store.ensures.left))

@@ -15,13 +15,13 @@ returns : tie.Need-returns-then-state-ne125
 returns c = does (unwritten _ _ c.if-state-ne125.true) refl refl
 
 rows : (c : tie.After-rh-1)
-    → let p = c.before.before.before.before.before.before.before.args.d.past in (length p.rl ≡ 11) × (length p.rh ≡ 11)
+    → let p = c.args.d.past in (length p.rl ≡ 11) × (length p.rh ≡ 11)
 rows c = (search rules, search rules)
 
 bands : (c : tie.After-state-1)
     → let w = c.before in
-    let r = w.before.before.before.before.before.before.before.before.before.args.d in
-    Front 125 81 (2 ∷ pcm_bytes (band_values r.low ++ band_values r.high)) w.write_bands.new.1.1.1.0
+    let r = w.args.d in
+    Front 125 81 (2 ∷ pcm_bytes (band_values r.low ++ band_values r.high)) w.write_bands.new.state
 bands c = record { long = omega arith; is = c.before.write_bands.ensures }
 
 slice-aggregate-store-2 : tie.Need-slice_bounds-store-end-3
@@ -34,7 +34,7 @@ returns-2 c =
     let b = s1.before.before.before.before in
     let p = b.before.before.before in
     let e = p.before.before.before.before.before in
-    let r = e.before.before.args.d in
+    let r = e.args.d in
     let l = rows p in
     does (written _ _ e.if-state-ne125.false) refl
     (decoder_written r
