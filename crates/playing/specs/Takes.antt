@@ -1,7 +1,7 @@
 -- A recording take by take: its blocks, played one after another, give the samples of each take decoded alone from reset.
 -- Assumes nothing.
 use Rattle.std.specs.Prelude.{◌≡◌, refl, Bool, false, cond, not, ℕ, ℤ}
-use Rattle.std.proofs.Common.{sym, ap, ap₂, ◌∙◌, eq-eqb, ne_eqb}
+use Rattle.std.proofs.Common.{subst, sym, ap, ap₂, ◌∙◌, eq-eqb, ne_eqb}
 use mathlib.Core.List.{List, [], ◌∷◌, ◌++◌, append-nil, append_assoc, flat_map}
 use Rattle.laws.specs.Order.{by_test}
 use Rattle.g722.specs.Records.{reset_decoder}
@@ -140,4 +140,4 @@ unfolding takes goes_on GoOn begins in_front
 one_take piece [] g = refl
 one_take piece (next ∷ more) g =
     rw (ne_eqb (read_call next).block 0 g.1, eq-eqb (read_call next).take (read_call piece).take g.0)
-    (ap (in_front piece) (one_take next more (rw (← g.0) at g.2)))
+    (ap (in_front piece) (one_take next more (subst (λ (number : ℕ). GoOn number more) (sym g.0) g.2)))

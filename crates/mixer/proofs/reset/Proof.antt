@@ -8,8 +8,8 @@ use Rattle.g722.specs.declared.Coder.{Coder}
 use Rattle.g722.specs.declared.Decoder.{Decoder}
 use Rattle.conference.specs.Tick.{unseated, reset_desk, reset_call}
 use Rattle.conference.specs.declared.Ticked.{Ticked}
-use Rattle.mixer.proofs.reset-c.Statement.{statement}
-use Rattle.mixer.proofs.reset-c.Tie as tie
+use Rattle.mixer.proofs.reset.Statement.{statement}
+use Rattle.mixer.proofs.reset.Tie as tie
 
 -- the answer, by what the three calls give
 answered : (number ports : ℕ) (t : Bool) {c : Coder} {d : Decoder} {u : Bool} {a : Ticked}

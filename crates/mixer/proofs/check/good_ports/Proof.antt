@@ -7,7 +7,7 @@ use native.Mathlib.Omega.{arith}
 use borrow.Author.Rules.{rules}
 use borrow.Author.Tests.{ltb-true, ltb-false}
 use lib.Dec.{ltb}
-use lib.ListN.{length, take, drop, get_or, length-map}
+use lib.ListN.{length, take, drop, get_or}
 use lib.Seq.{take_all, get_or-take, length-take-le}
 use Rattle.laws.specs.Order.{by_test}
 use Rattle.g722.specs.declared.Coder.{Coder}
@@ -58,9 +58,8 @@ used {A} xs n h =
 loop-holds : tie.Need-loop-i-init invariant-loop decreases-loop
 loop-holds c =
     let s = c.before.before.before.before in
-    let fields = s.well_formed.0.1.1 in
-    let coders = sym (length-map s.args.desk.coders _) ∙ fields.1.0.1.0.1 in
-    let decoders = sym (length-map s.args.desk.decoders _) ∙ fields.1.1.0.1.0.1 in
+    let coders : length s.args.desk.coders ≡ 8 = search rules in
+    let decoders : length s.args.desk.decoders ≡ 8 = search rules in
     (omega arith, coders, decoders, refl)
 
 loop-again : tie.Need-loop-i-preserved invariant-loop decreases-loop

@@ -12,15 +12,15 @@ use Rattle.mixer.proofs.sums.others.Statement.{statement}
 use Rattle.mixer.proofs.sums.others.Tie as tie
 
 difference : (c : tie.After-wide)
-    → to_z w32 (of_z w32 c.args.all) -ℤ to_z w32 (of_z w32 c.wide.result) ≡ c.args.all -ℤ c.args.own_val
+    → to_z w32 (of_z w32 c.args.all) -ℤ to_z w32 (of_z w32 c.wide.result) ≡ c.args.all -ℤ c.args.own
 difference c =
     let s = c.before in
-    λ i. to_z-of_z s.ranges.all i -ℤ widened c.wide.type_inv c.wide.ensures s.ranges.own_val i
+    λ i. to_z-of_z s.ranges.all i -ℤ widened c.wide.type_inv c.wide.ensures s.ranges.own i
 
 sub-limit : tie.Need-overflow_sub-all
 sub-limit c =
     let s = c.before in
-    rw (difference c) (fits_abs (omega (arith, abs_sub s.args.all s.args.own_val, abs16 s.ranges.own_val)))
+    rw (difference c) (fits_abs (omega (arith, abs_sub s.args.all s.args.own, abs16 s.ranges.own)))
 
 returns : tie.Need-returns
 returns c = c.limit.ensures ∙ ap limited (to_z-of_z (sub-limit c.before) ∙ difference c.before)

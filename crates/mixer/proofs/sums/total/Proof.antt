@@ -72,7 +72,7 @@ loop-again c =
     let signals = (at c).before.args.signals.now in (
       omega arith,
       l.invariant.1,
-      ap (λ (z : ℤ). z +ℤ sum_of (drop (l.i + 1) signals)) (summed c) ∙ turn (to_z w32 l.sum) signals l.i (omega arith) ∙ l.invariant.2,
+      ap (λ (z : ℤ). z +ℤ sum_of (drop (l.i + 1) signals)) (summed c) ∙ turn (to_z w32 l.sum-bits) signals l.i (omega arith) ∙ l.invariant.2,
       rw (summed c) (size c),
     )
 
@@ -80,7 +80,7 @@ returns : tie.Need-returns invariant-loop decreases-loop
 returns c =
     let l = c.before.loop-i in
     let signals = c.args.signals.now in
-    (end (to_z w32 l.sum) signals l.i (omega arith) ∙ l.invariant.2, omega arith)
+    (end (to_z w32 l.sum-bits) signals l.i (omega arith) ∙ l.invariant.2, omega arith)
 
 pub total_spec : {M : Type 1} → statement M
 total_spec =

@@ -1,27 +1,18 @@
 -- `mixer::in_turn` meets its contract: what is sent is made of what was heard.
 use mathlib.Core.Path.{ap, ◌∙◌}
 use mathlib.Core.List.{List, zip, zip_with}
-use borrow.Author.Rules.{rules}
 use lib.IntN.{ℤ}
 use Rattle.conference.specs.Sums.{mixed}
 use Rattle.conference.specs.Ports.{octet_to, coder_to, each_port}
 use Rattle.conference.specs.Tick.{signals_to, octets_to, desk_after, sums_limited, tick_limited, ticked}
-use Rattle.mixer.proofs.in_turn.Statement.{statement}
-use Rattle.mixer.proofs.in_turn.Tie as tie
+use Rattle.mixer.proofs.in_turn.Goals as goal
 
-hear-all-requires : tie.Need-hear_all-heard-requires
-hear-all-requires c κs =
-    let p = c.requires in
-    (p.0, (p.1.0, (p.1.1.0, p.1.1.1.0)))
-
-returns : tie.Need-returns
+pub returns : goal.returns
 unfolding ticked tick_limited desk_after octets_to signals_to
 returns c =
-    let s = c.before.before.before.before in
-    let h = s.before.before.before.before.before.before in
-    let desk = h.args.desk in
-    let heard = h.hear_all-heard.ensures in
-    let sent = s.send_all-sent.ensures in
+    let desk = c.args.desk in
+    let heard = c.hear_all-heard.ensures in
+    let sent = c.send_all-sent.ensures in
     let signals = ap (λ (l : List ℤ × List ℤ). zip (mixed l.0) (mixed l.1)) heard.left in
     let coders = (λ j. (sent.answer j).coders) ∙ ap (each_port coder_to desk.coders) signals in
     let count = (λ j. (sent.answer j).limited) ∙ ap (λ (l : List ℤ × List ℤ). sums_limited l.0 l.1) heard.left in
@@ -36,15 +27,3 @@ returns c =
           };
       left = sent.left ∙ ap (zip_with octet_to desk.coders) signals;
     }
-
-pub in_turn_spec : {M : Type 1} → statement M
-in_turn_spec =
-    tie.close
-    (tie.spec
-    hear-all-requires
-    (λ c κs. search rules)
-    (λ c κs. tt)
-    (λ c. search rules)
-    (λ c. search rules)
-    (λ c. search rules)
-    returns)
