@@ -35,7 +35,7 @@ packed-requires c κs =
 returns : tie.Need-returns-then-a-eq0
 unfolding after_coding code_bytes
 returns c =
-    let t = c.before.before.before.before in
+    let t = c.before.before.before.before.before in
     let p = t.before.before in
     let e = p.before.before.before in
     let a = e.args in

@@ -17,7 +17,7 @@ use Rattle.host_steps.proofs.zelcandry_hear.Statement.{statement}
 use Rattle.host_steps.proofs.zelcandry_hear.Tie as tie
 
 abbrev began : tie.After-hear_chunk-heard → tie.Start
-began e = e.before.before.before.before.before.before.before.before.before
+began e = e.before.before.before.before.before.before.before.before
 
 -- the call on the record that the state's bytes hold
 abbrev meant : tie.After-hear_chunk-heard → Decoder → Outcome Decoded (List ℕ × List ℕ)
@@ -44,7 +44,7 @@ packed-requires c κs =
 returns : tie.Need-returns-then-heard-eq0
 unfolding after_decoding hear_bytes
 returns c =
-    let t = c.before.before.before.before in
+    let t = c.before.before.before.before.before in
     let p = t.before.before in
     let e = p.before.before.before.before.before in
     let a = (began e).args in

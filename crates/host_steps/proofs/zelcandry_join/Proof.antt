@@ -17,7 +17,7 @@ use Rattle.host_steps.proofs.zelcandry_join.Statement.{statement}
 use Rattle.host_steps.proofs.zelcandry_join.Tie as tie
 
 abbrev began : tie.After-join_chunk-joined → tie.Start
-began e = e.before.before.before.before.before.before.before.before
+began e = e.before.before.before.before.before.before.before
 
 -- the call on the record that the state's bytes hold
 abbrev meant : tie.After-join_chunk-joined → Decoder → Outcome Decoded (List ℕ)
@@ -40,7 +40,7 @@ packed-requires c κs =
 returns : tie.Need-returns-then-joined-eq0
 unfolding after_decoding join_bytes
 returns c =
-    let t = c.before.before.before.before in
+    let t = c.before.before.before.before.before in
     let p = t.before.before in
     let e = p.before.before.before in
     let a = (began e).args in
