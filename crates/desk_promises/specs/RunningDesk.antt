@@ -3,17 +3,17 @@
 use Rattle.std.specs.Prelude.{◌≡◌, refl, List, [], ◌∷◌, map, ℕ, ◌<◌, get_or}
 use Rattle.std.proofs.Common.{sym, ap, subst, ◌∙◌}
 use base.Stored.{Coded-set, coded_ℕ, coded_list}
-use Rattle.std.specs.Borrow.{Bor}
+use Rattle.std.specs.Borrow.{Bor, MutBor}
 use denote.Signature.{type_at}
 use Rattle.laws.specs.One.{Allows, Lifetimes, claims}
 use Rattle.laws.specs.Outcome.{Does}
-use Rattle.mixer.proofs as mixer
+use Rattle.mixer.specs.contracts as mixer
 use Rattle.conference.specs.Tick.{tick_call}
 use Rattle.conference.specs.Own.{TickInput, NoneRefused, sent_to, AllButFor, Eight, own_octets_unheard}
 use Rattle.conference.specs.declared.Desk.{Desk}
 use Rattle.conference.specs.declared.Ticked.{Ticked}
 use Rattle.promises.specs.Made.{does_prop, Made, MadeFrom, last_of, taken_of, lefts_of, made_as_one_run, made_left_as_one_run}
-use Rattle.promises.specs.Allowed.{allowed, all_made, lent}
+use Rattle.promises.specs.Allowed.{allowed, all_made, lent, lent_out}
 use Rattle.desk_promises.specs.DeskCalls.{ticking, desk_run, octets_run, ticking_runs}
 
 -- a tick that was made: the lifetimes and what was lent, what it answered, what it left
@@ -21,13 +21,13 @@ pub record Ticking : Type 0 where
   pub lifetimes : Lifetimes mixer.tick.ended
   pub modes : Bor (List ℕ)
   pub octets : Bor (List ℕ)
-  pub room : Bor (List ℕ)
+  pub room : MutBor (List ℕ)
   pub answer : Ticked
   pub left : List ℕ
 
 abbrev pub Ticks : Desk → Ticking → Type 2
 Ticks d k =
-    Allows mixer.tick.ended (λ M. mixer.tick.clauses) k.lifetimes (d, (k.modes, (k.octets, (k.room, tt)))) k.answer
+    Allows mixer.tick.ended (λ M 𝓤. mixer.tick.clauses) k.lifetimes (d, (k.modes, (k.octets, (k.room, tt)))) k.answer
     (tt, (tt, (tt, (k.left, tt))))
 
 pub did_tick : (d : Desk) (k : Ticking) → Ticks d k
@@ -97,11 +97,11 @@ make d i =
       lifetimes = ([], ([], ([], tt)));
       modes = lent i.modes;
       octets = lent i.octets;
-      room = lent i.room;
+      room = lent_out i.room;
       answer = (ticking.call d i).answer;
       left = (ticking.call d i).left;
     }
 
 pub can_tick : (d : Desk) (is : List TickInput) → (ms : List Ticking) × MadeFrom tickings d ms × (map tickings.input ms ≡ is)
-unfolding make lent
+unfolding make lent lent_out
 can_tick = all_made tickings (record { make = make; asked = λ d i. refl; may = λ d i. allowed (record { answer = refl; left = refl }) })

@@ -3,7 +3,7 @@
 use Rattle.std.specs.Prelude.{◌≡◌, refl, List, [], map, ℕ}
 use Rattle.host.specs.Calls.{code_bytes, decode_bytes, put_bytes}
 use Rattle.promises.specs.Made.{MadeFrom}
-use Rattle.promises.specs.Allowed.{allowed, Makes, all_made, lent}
+use Rattle.promises.specs.Allowed.{allowed, Makes, all_made, lent, lent_out}
 use Rattle.host_promises.specs.Streams.{EncodeInput, StoreInput}
 use Rattle.host_promises.specs.HostCalls.{returned}
 use Rattle.host_promises.specs.HostCarried.{HostParcel}
@@ -15,9 +15,9 @@ code s k =
     let x = returned (code_bytes s k.bytes k.octets) in
     record {
       lifetimes = ([], ([], ([], tt)));
-      state = lent s;
+      state = lent_out s;
       samples = lent k.bytes;
-      octets = lent k.octets;
+      octets = lent_out k.octets;
       answer = x.answer;
       left = x.left;
     }
@@ -27,10 +27,10 @@ decode s k =
     let x = returned (decode_bytes s k.told k.octets k.bytes) in
     record {
       lifetimes = ([], ([], ([], tt)));
-      state = lent s;
+      state = lent_out s;
       told = k.told;
       octets = lent k.octets;
-      samples = lent k.bytes;
+      samples = lent_out k.bytes;
       answer = x.answer;
       left = x.left;
     }
@@ -41,7 +41,7 @@ put x =
     record {
       lifetimes = ([], ([], tt));
       mode = x.mode;
-      octets = lent x.octets;
+      octets = lent_out x.octets;
       bytes = lent x.bytes;
       word = y.answer;
       left = y.left;
@@ -49,11 +49,11 @@ put x =
     }
 
 pub makes_host_code : Makes host_codes
-unfolding code lent
+unfolding code lent lent_out
 makes_host_code = record { make = code; asked = λ s k. refl; may = λ s k. (refl, allowed (record { answer = refl; left = refl })) }
 
 pub makes_host_decode : Makes host_decodes
-unfolding decode lent
+unfolding decode lent lent_out
 makes_host_decode = record { make = decode; asked = λ s k. refl; may = λ s k. (refl, allowed (record { answer = refl; left = refl })) }
 
 -- THE THEOREMS: any calls can be made at each end, from any state bytes, and any data can be put in
@@ -66,5 +66,5 @@ pub can_host_decode : (state : List ℕ) (ks : List StoreInput)
 can_host_decode = all_made host_decodes makes_host_decode
 
 pub can_host_put : (x : HostParcel) → (p : HostPut) × HostPuts p × (host_parcel p ≡ x)
-unfolding put lent
+unfolding put lent lent_out
 can_host_put x = (put x, allowed (record { answer = refl; left = refl }), refl)

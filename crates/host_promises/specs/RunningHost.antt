@@ -5,11 +5,11 @@
 use Rattle.std.specs.Prelude.{◌≡◌, List, map, ℕ, ◌*◌, ℤ, length, take}
 use Rattle.std.proofs.Common.{sym, ◌∙◌}
 use base.Stored.{Coded-set, coded_ℕ, coded_list, coded×}
-use Rattle.std.specs.Borrow.{Bor}
+use Rattle.std.specs.Borrow.{Bor, MutBor}
 use denote.Signature.{type_at}
 use Rattle.laws.specs.One.{Allows, Lifetimes, claims}
 use Rattle.laws.specs.Outcome.{Does}
-use Rattle.host.proofs as host
+use Rattle.host.specs.contracts as host
 use Rattle.g722.specs.Records.{reset_coder, reset_decoder}
 use Rattle.g722.specs.Coding.{octets_of, coder_after}
 use Rattle.facts.specs.Told.{Told, decoder_run, samples_run}
@@ -34,18 +34,18 @@ use Rattle.host_promises.specs.HostUnheard.{AlikeInput, host_answers_unheard, ho
 -- a call that a host made: the lifetimes and what was lent, the state first; the word and the state that it then had, and what was left
 pub record HostCode : Type 0 where
   pub lifetimes : Lifetimes host.zelcandry_code.ended
-  pub state : Bor (List ℕ)
+  pub state : MutBor (List ℕ)
   pub samples : Bor (List ℕ)
-  pub octets : Bor (List ℕ)
+  pub octets : MutBor (List ℕ)
   pub answer : Returned
   pub left : List ℕ
 
 pub record HostDecode : Type 0 where
   pub lifetimes : Lifetimes host.zelcandry_decode.ended
-  pub state : Bor (List ℕ)
+  pub state : MutBor (List ℕ)
   pub told : ℕ
   pub octets : Bor (List ℕ)
-  pub samples : Bor (List ℕ)
+  pub samples : MutBor (List ℕ)
   pub answer : Returned
   pub left : List ℕ
 
@@ -53,13 +53,13 @@ pub record HostDecode : Type 0 where
 abbrev pub HostCodes : List ℕ → HostCode → Type 2
 HostCodes s k =
     (k.state.now ≡ s)
-    × Allows host.zelcandry_code.ended (λ M. host.zelcandry_code.clauses) k.lifetimes (k.state, (k.samples, (k.octets, tt)))
+    × Allows host.zelcandry_code.ended (λ M 𝓤. host.zelcandry_code.clauses) k.lifetimes (k.state, (k.samples, (k.octets, tt)))
     k.answer.word (k.answer.state, (tt, (k.left, tt)))
 
 abbrev pub HostDecodes : List ℕ → HostDecode → Type 2
 HostDecodes s k =
     (k.state.now ≡ s)
-    × Allows host.zelcandry_decode.ended (λ M. host.zelcandry_decode.clauses) k.lifetimes
+    × Allows host.zelcandry_decode.ended (λ M 𝓤. host.zelcandry_decode.clauses) k.lifetimes
     (k.state, (k.told, (k.octets, (k.samples, tt)))) k.answer.word (k.answer.state, (tt, (tt, (k.left, tt))))
 
 -- ---- and that it is what the definitions give

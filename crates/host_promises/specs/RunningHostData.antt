@@ -5,9 +5,9 @@ use Rattle.std.specs.Prelude.{◌≡◌, refl, ℕ, ◌*◌, take}
 use Rattle.std.proofs.Common.{sym, ap, ap₂, ◌∙◌}
 use mathlib.Core.List.{List, [], ◌∷◌, ◌++◌, map, flat_map}
 use base.Stored.{Coded-set, coded_ℕ, coded_list}
-use Rattle.std.specs.Borrow.{Bor}
+use Rattle.std.specs.Borrow.{Bor, MutBor}
 use Rattle.laws.specs.One.{Allows, Lifetimes, claims}
-use Rattle.host.proofs as host
+use Rattle.host.specs.contracts as host
 use Rattle.g722.specs.Records.{reset_coder, reset_decoder}
 use Rattle.g722.specs.Coding.{coder_after}
 use Rattle.facts.specs.Told.{decoder_run}
@@ -27,7 +27,7 @@ use Rattle.host_promises.specs.RunningHost.{running_host_ends_equal, running_hos
 pub record HostPut : Type 0 where
   pub lifetimes : Lifetimes host.zelcandry_put.ended
   pub mode : ℕ
-  pub octets : Bor (List ℕ)
+  pub octets : MutBor (List ℕ)
   pub bytes : Bor (List ℕ)
   pub word : ℕ
   pub left : List ℕ
@@ -35,7 +35,7 @@ pub record HostPut : Type 0 where
 
 abbrev pub HostPuts : HostPut → Type 2
 HostPuts p =
-    Allows host.zelcandry_put.ended (λ M. host.zelcandry_put.clauses) p.lifetimes (p.mode, (p.octets, (p.bytes, tt))) p.word
+    Allows host.zelcandry_put.ended (λ M 𝓤. host.zelcandry_put.clauses) p.lifetimes (p.mode, (p.octets, (p.bytes, tt))) p.word
     (tt, (p.left, (tt, tt)))
 
 unfoldable pub AllHostPut : List HostPut → Type 2

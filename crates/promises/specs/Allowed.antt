@@ -4,9 +4,9 @@
 use Rattle.std.specs.Prelude.{◌≡◌, refl}
 use mathlib.Core.List.{List, [], ◌∷◌, map}
 use base.Logic.{emp}
-use ghost.Atoms.{Atoms}
-use store.Instance.{Heap¹, 𝓗¹, heap₀, model₀}
-use Rattle.std.specs.Borrow.{Bor}
+use ghost.Model.{Res, 𝓤, model}
+use contract.BorrowModel.{logic₀}
+use Rattle.std.specs.Borrow.{Bor, MutBor}
 use denote.Triple.Clauses.{Ended, Lasts, at_exit}
 use Rattle.laws.specs.One.{Lifetimes, Input, Answer, Claims, Claim, Allows}
 use Rattle.g722.specs.Records.{reset_coder, reset_decoder}
@@ -22,34 +22,18 @@ use Rattle.promises.specs.Made.{Made, MadeFrom}
 use Rattle.promises.specs.Running.{Reset_coder, Reset_decoder, Coding, Decoding, codings, decodings}
 use Rattle.promises.specs.RunningData.{Putting, Puts, parcel}
 
--- no atom of ghost state is asked anything
-atoms : Atoms 𝓗¹
-atoms =
-    record {
-      lft = λ κ q. emp 𝓗¹;
-      dead = λ κ. emp 𝓗¹;
-      obs = λ γ x. emp 𝓗¹;
-      auth = λ γ x. emp 𝓗¹;
-      res = λ γ x. emp 𝓗¹;
-      bor = λ κ P. emp 𝓗¹;
-      obor = λ κ q P. emp 𝓗¹;
-      lent = λ κ P. emp 𝓗¹;
-      shr_bor = λ κ Φ. emp 𝓗¹;
-    }
-
--- a contract of one plain claim allows what meets the claim, over the heap alone
+-- a contract of one plain claim allows what meets the claim, in the logic's own model
 pub allowed : {T : Ended} {φ : Claims T} {κs : Lifetimes T} {a : Input T κs} {r : Answer T κs} {l : Lasts T κs a}
     → φ κs a r (at_exit T κs a l) → Allows T (Claim T φ) κs a r l
 allowed h =
     record {
-      M = Heap¹;
-      𝓤 = 𝓗¹;
-      H = heap₀;
-      A = atoms;
-      mem = model₀.mem;
-      run = λ ρ vs K. emp 𝓗¹;
+      M = Res;
+      𝓤 = 𝓤;
+      𝓛 = logic₀;
+      mem = model.mem;
+      run = λ ρ vs K. emp 𝓤;
       ghost = tt;
-      at = 𝓗¹.one;
+      at = 𝓤.one;
       ensured = ∣ (h, tt) ∣₁;
     }
 
@@ -70,14 +54,17 @@ module _ {C : Calls} (M : Made C) (can : Makes M) where
       let rest = all_made (C.next (M.answer (make s k))) ks in
       (make s k ∷ rest.0, (may s k, rest.1), λ i. asked s k i ∷ rest.2 i)
 
--- a value lent anywhere, under any name
+-- a value lent anywhere, to read or, under any name, to write
 unfoldable pub lent : {X : Type 0} → X → Bor X
 lent x = record { ref_ptr = (0, 0); now = x }
+
+unfoldable pub lent_out : {X : Type 0} → X → MutBor X
+lent_out x = record { ref_ptr = (0, 0); ghost_name = 0; now = x }
 
 code : Coder → CodeInput → Coding
 code c k =
     let x = code_call c k.samples k.octets in
-    record { lifetimes = ([], ([], tt)); samples = lent k.samples; octets = lent k.octets; answer = x.answer; left = x.left }
+    record { lifetimes = ([], ([], tt)); samples = lent k.samples; octets = lent_out k.octets; answer = x.answer; left = x.left }
 
 decode : Decoder → DecodeInput → Decoding
 decode d k =
@@ -86,7 +73,7 @@ decode d k =
       lifetimes = ([], ([], tt));
       told = k.told;
       octets = lent k.octets;
-      samples = lent k.samples;
+      samples = lent_out k.samples;
       answer = x.answer;
       left = x.left;
     }
@@ -97,7 +84,7 @@ put x =
     record {
       lifetimes = ([], ([], tt));
       mode = x.mode;
-      octets = lent x.octets;
+      octets = lent_out x.octets;
       bytes = lent x.bytes;
       answer = y.answer;
       left = y.left;
@@ -105,11 +92,11 @@ put x =
     }
 
 pub makes_code : Makes codings
-unfolding code lent
+unfolding code lent lent_out
 makes_code = record { make = code; asked = λ c k. refl; may = λ c k. allowed (record { answer = refl; left = refl }) }
 
 pub makes_decode : Makes decodings
-unfolding decode lent
+unfolding decode lent lent_out
 makes_decode = record { make = decode; asked = λ d k. refl; may = λ d k. allowed (record { answer = refl; left = refl }) }
 
 -- THE THEOREMS: both ends can be reset, any calls can be made at each, and any data can be put in
@@ -123,5 +110,5 @@ pub can_decode : (d : Decoder) (ks : List DecodeInput) → (ms : List Decoding) 
 can_decode = all_made decodings makes_decode
 
 pub can_put : (x : Parcel) → (p : Putting) × Puts p × (parcel p ≡ x)
-unfolding put lent
+unfolding put lent lent_out
 can_put x = (put x, allowed (record { answer = refl; left = refl }), refl)

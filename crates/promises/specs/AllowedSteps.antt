@@ -8,7 +8,7 @@ use Rattle.promises.specs.JoinCalls.{joining}
 use Rattle.promises.specs.StepGiven.{StepInput, hear, join}
 use Rattle.promises.specs.Made.{MadeFrom}
 use Rattle.promises.specs.RunningSteps.{Stepping, heard, joined, Steps, step_input, steppings}
-use Rattle.promises.specs.Allowed.{allowed, all_made, lent}
+use Rattle.promises.specs.Allowed.{allowed, all_made, lent, lent_out}
 
 step : Decoder → StepInput → Stepping
 step d (hear k) =
@@ -16,8 +16,8 @@ step d (hear k) =
       lifetimes = ([], ([], ([], tt)));
       told = k.told;
       octets = lent k.octets;
-      low = lent k.low;
-      high = lent k.high;
+      low = lent_out k.low;
+      high = lent_out k.high;
       answer = (hears d k).answer;
       left_low = (hears d k).left.0;
       left_high = (hears d k).left.1;
@@ -27,18 +27,18 @@ step d (join k) =
       lifetimes = ([], ([], ([], tt)));
       low = lent k.low;
       high = lent k.high;
-      samples = lent k.samples;
+      samples = lent_out k.samples;
       answer = (joining.call d k).answer;
       left = (joining.call d k).left;
     })
 
 asked : (d : Decoder) (k : StepInput) → step_input (step d k) ≡ k
-unfolding step lent
+unfolding step lent lent_out
 asked d (hear k) = refl
 asked d (join k) = refl
 
 may : (d : Decoder) (k : StepInput) → Steps d (step d k)
-unfolding step lent
+unfolding step lent lent_out
 may d (hear k) = allowed (record { answer = refl; left = refl })
 may d (join k) = allowed (record { answer = refl; left = refl })
 

@@ -54,14 +54,14 @@ module _ {C : Calls} (M : Made C) where
   unfolding MadeFrom last_of through
   made_record s [] m = refl
   made_record s (k ∷ ks) m =
-      made_record _ ks m.1 ∙ ap (λ (a : Answer). through C (next a) (map input ks)) (did s k m.0).answer
+      made_record (next (answer k)) ks m.1 ∙ ap (λ (a : Answer). through C (next a) (map input ks)) (did s k m.0).answer
 
   pub made_answers : (s : State) (ks : List Call) → MadeFrom s ks → map answer ks ≡ answers C s (map input ks)
   unfolding MadeFrom answers
   made_answers s [] m = refl
   made_answers s (k ∷ ks) m =
       let same = (did s k m.0).answer in
-      λ i. same i ∷ (made_answers _ ks m.1 ∙ ap (λ (a : Answer). answers C (next a) (map input ks)) same) i
+      λ i. same i ∷ (made_answers (next (answer k)) ks m.1 ∙ ap (λ (a : Answer). answers C (next a) (map input ks)) same) i
 
   pub made_of : {Z : Type 0} (f : Call → List Z) (g : State → Input → List Z) → ((s : State) (k : Call) → Allowed s k → f k ≡ g s (input k))
       → (s : State) (ks : List Call) → MadeFrom s ks → of_done f ks ≡ of_accepted C g s (map input ks)
@@ -70,7 +70,7 @@ module _ {C : Calls} (M : Made C) where
   made_of f g h s (k ∷ ks) m =
       let same = (did s k m.0).answer in
       λ i. cond (eqb (number (same i)) 0) (h s k m.0 i) []
-      ++ (made_of f g h _ ks m.1 ∙ ap (λ (a : Answer). of_accepted C g (next a) (map input ks)) same) i
+      ++ (made_of f g h (next (answer k)) ks m.1 ∙ ap (λ (a : Answer). of_accepted C g (next a) (map input ks)) same) i
 
   pub made_left : (s : State) (ks : List Call) → MadeFrom s ks → lefts_of ks ≡ lefts C s (map input ks)
   made_left = made_of left (λ t k. (C.call t k).left) (λ s k m. (did s k m).left)

@@ -29,7 +29,7 @@ module _ {ℓ} {C : Calls} (M : Made C) (Reset : C.State → Type ℓ) where
   made_join : (s : State) (ks : List Call) (k : Call) → MadeFrom M s ks → Allowed (last_of M s ks) k → MadeFrom M s (ks ++ (k ∷ []))
   unfolding MadeFrom last_of
   made_join s [] k m a = (a, tt)
-  made_join s (j ∷ ks) k m a = (m.0, made_join _ ks k m.1 a)
+  made_join s (j ∷ ks) k m a = (m.0, made_join (next (answer j)) ks k m.1 a)
 
   last_join : (s : State) (ks : List Call) (k : Call) → last_of M s (ks ++ (k ∷ [])) ≡ next (answer k)
   unfolding last_of
@@ -40,8 +40,8 @@ module _ {ℓ} {C : Calls} (M : Made C) (Reset : C.State → Type ℓ) where
       → MadeTurns s ts u → FromReset (since_after ks ts) u
   unfolding MadeFrom last_of since_after
   made_after ks r m e none = record { start = _; was_reset = r; made = m; last = e }
-  made_after ks r m e (afresh p w) = made_after [] p tt refl w
-  made_after ks r m e (called {k} a w) = made_after (ks ++ (k ∷ [])) r (made_join _ ks k m (rw e a)) (last_join _ ks k) w
+  made_after ks r m e (afresh {t = t} p w) = made_after {start = t} [] p tt refl w
+  made_after {start = start} ks r m e (called {k} a w) = made_after {start = start} (ks ++ (k ∷ [])) r (made_join _ ks k m (rw e a)) (last_join _ ks k) w
 
   -- THE LAW, from any record
   pub made_since : {s u : State} {ts : List (Turn Call)} → MadeTurns s (reset ∷ ts) u → FromReset (since ts) u

@@ -5,12 +5,12 @@
 use Rattle.std.specs.Prelude.{◌≡◌, List, map, ℕ, ◌*◌, ℤ, length, take}
 use Rattle.std.proofs.Common.{sym, ◌∙◌}
 use base.Stored.{Coded-set, coded_ℕ, coded_ℤ, coded_list}
-use Rattle.std.specs.Borrow.{Bor}
+use Rattle.std.specs.Borrow.{Bor, MutBor}
 use denote.Signature.{type_at}
 use Rattle.laws.specs.One.{Allows, Lifetimes, claims}
 use Rattle.laws.specs.Outcome.{Does}
-use Rattle.coder.proofs as coder
-use Rattle.decoder.proofs as decoder
+use Rattle.coder.specs.contracts as coder
+use Rattle.decoder.specs.contracts as decoder
 use Rattle.g722.specs.Records.{reset_coder, reset_decoder}
 use Rattle.g722.specs.Coding.{octets_of, coder_after, code_call}
 use Rattle.g722.specs.Decoding.{decode_call}
@@ -31,16 +31,16 @@ use Rattle.promises.specs.Made.{made_as_one_run, made_left_as_one_run}
 -- ---- what the contracts allow
 
 abbrev pub Reset_coder : Coder → Type 2
-Reset_coder c = Allows coder.reset.ended (λ M. coder.reset.clauses) tt tt c tt
+Reset_coder c = Allows coder.reset.ended (λ M 𝓤. coder.reset.clauses) tt tt c tt
 
 abbrev pub Reset_decoder : Decoder → Type 2
-Reset_decoder d = Allows decoder.reset.ended (λ M. decoder.reset.clauses) tt tt d tt
+Reset_decoder d = Allows decoder.reset.ended (λ M 𝓤. decoder.reset.clauses) tt tt d tt
 
 -- a call that was made: the lifetimes and what was lent, what it answered, what it left
 pub record Coding : Type 0 where
   pub lifetimes : Lifetimes coder.code.ended
   pub samples : Bor (List ℤ)
-  pub octets : Bor (List ℕ)
+  pub octets : MutBor (List ℕ)
   pub answer : Coded
   pub left : List ℕ
 
@@ -48,18 +48,18 @@ pub record Decoding : Type 0 where
   pub lifetimes : Lifetimes decoder.decode.ended
   pub told : ℕ
   pub octets : Bor (List ℕ)
-  pub samples : Bor (List ℤ)
+  pub samples : MutBor (List ℤ)
   pub answer : Decoded
   pub left : List ℤ
 
 abbrev pub Codes : Coder → Coding → Type 2
 Codes c k =
-    Allows coder.code.ended (λ M. coder.code.clauses) k.lifetimes (c, (k.samples, (k.octets, tt))) k.answer
+    Allows coder.code.ended (λ M 𝓤. coder.code.clauses) k.lifetimes (c, (k.samples, (k.octets, tt))) k.answer
     (tt, (tt, (k.left, tt)))
 
 abbrev pub Decodes : Decoder → Decoding → Type 2
 Decodes d k =
-    Allows decoder.decode.ended (λ M. decoder.decode.clauses) k.lifetimes (d, (k.told, (k.octets, (k.samples, tt)))) k.answer
+    Allows decoder.decode.ended (λ M 𝓤. decoder.decode.clauses) k.lifetimes (d, (k.told, (k.octets, (k.samples, tt)))) k.answer
     (tt, (tt, (tt, (k.left, tt))))
 
 -- ---- and that it is what the definitions give

@@ -4,9 +4,9 @@ use Rattle.std.specs.Prelude.{◌≡◌, refl, ℕ, ◌*◌, ℤ, take}
 use Rattle.std.proofs.Common.{sym, ap, ap₂, ◌∙◌}
 use mathlib.Core.List.{List, [], ◌∷◌, ◌++◌, map, flat_map}
 use base.Stored.{Coded-set, coded_ℕ, coded_list}
-use Rattle.std.specs.Borrow.{Bor}
+use Rattle.std.specs.Borrow.{Bor, MutBor}
 use Rattle.laws.specs.One.{Allows, Lifetimes, claims}
-use Rattle.cue.proofs as cue
+use Rattle.cue.specs.contracts as cue
 use Rattle.g722.specs.Coding.{coder_after}
 use Rattle.facts.specs.Upper.{upper_six}
 use Rattle.g722.specs.declared.Coder.{Coder}
@@ -26,7 +26,7 @@ use Rattle.promises.specs.Running.{running_ends_equal, running_unheard}
 pub record Putting : Type 0 where
   pub lifetimes : Lifetimes cue.put.ended
   pub mode : ℕ
-  pub octets : Bor (List ℕ)
+  pub octets : MutBor (List ℕ)
   pub bytes : Bor (List ℕ)
   pub answer : Moved
   pub left : List ℕ
@@ -34,7 +34,7 @@ pub record Putting : Type 0 where
 
 abbrev pub Puts : Putting → Type 2
 Puts p =
-    Allows cue.put.ended (λ M. cue.put.clauses) p.lifetimes (p.mode, (p.octets, (p.bytes, tt))) p.answer
+    Allows cue.put.ended (λ M 𝓤. cue.put.clauses) p.lifetimes (p.mode, (p.octets, (p.bytes, tt))) p.answer
     (tt, (p.left, (tt, tt)))
 
 unfoldable pub AllPut : List Putting → Type 2

@@ -4,11 +4,11 @@
 use Rattle.std.specs.Prelude.{◌≡◌, refl, List, [], map, ℕ, ℤ}
 use Rattle.std.proofs.Common.{sym, ap, ◌∙◌}
 use base.Stored.{Coded-set, coded_ℤ, coded_list, coded×}
-use Rattle.std.specs.Borrow.{Bor}
+use Rattle.std.specs.Borrow.{Bor, MutBor}
 use denote.Signature.{type_at}
 use Rattle.laws.specs.One.{Allows, Lifetimes, claims}
 use Rattle.laws.specs.Outcome.{Does}
-use Rattle.decoder.proofs as decoder
+use Rattle.decoder.specs.contracts as decoder
 use Rattle.g722.specs.Steps.{rhs_of, heard_after, hear_call, joined_of, joined_after, join_call}
 use Rattle.g722.specs.declared.Decoder.{Decoder}
 use Rattle.g722.specs.declared.Decoded.{Decoded}
@@ -27,8 +27,8 @@ pub record Hearing : Type 0 where
   pub lifetimes : Lifetimes decoder.hear.ended
   pub told : ℕ
   pub octets : Bor (List ℕ)
-  pub low : Bor (List ℤ)
-  pub high : Bor (List ℤ)
+  pub low : MutBor (List ℤ)
+  pub high : MutBor (List ℤ)
   pub answer : Decoded
   pub left_low : List ℤ
   pub left_high : List ℤ
@@ -37,18 +37,18 @@ pub record Joining : Type 0 where
   pub lifetimes : Lifetimes decoder.join.ended
   pub low : Bor (List ℤ)
   pub high : Bor (List ℤ)
-  pub samples : Bor (List ℤ)
+  pub samples : MutBor (List ℤ)
   pub answer : Decoded
   pub left : List ℤ
 
 abbrev pub Hears : Decoder → Hearing → Type 2
 Hears d k =
-    Allows decoder.hear.ended (λ M. decoder.hear.clauses) k.lifetimes
+    Allows decoder.hear.ended (λ M 𝓤. decoder.hear.clauses) k.lifetimes
     (d, (k.told, (k.octets, (k.low, (k.high, tt))))) k.answer (tt, (tt, (tt, (k.left_low, (k.left_high, tt)))))
 
 abbrev pub Joins : Decoder → Joining → Type 2
 Joins d k =
-    Allows decoder.join.ended (λ M. decoder.join.clauses) k.lifetimes (d, (k.low, (k.high, (k.samples, tt)))) k.answer
+    Allows decoder.join.ended (λ M 𝓤. decoder.join.clauses) k.lifetimes (d, (k.low, (k.high, (k.samples, tt)))) k.answer
     (tt, (tt, (tt, (k.left, tt))))
 
 -- ---- and that it is what the definitions give
