@@ -31,10 +31,10 @@ loop-i-preserved c =
     record {
       within = omega arith;
       filled = elim c.if-k-lt11.branch [
-        then-k-lt11 w ↦
+        | then-k-lt11 w ↦
             let b : mag (nth p k) < 2 ^ 15 = search rules in
             rw w.next-is (more p x e f c.loop-i-test.true (in_front_lem p x k (omega arith) (back16 (nth p k) b)))
-      | else-k-lt11 w ↦
+        | else-k-lt11 w ↦
             let b : mag (nth x (k - 11)) < 2 ^ 15 = search rules in
             rw w.next-is (more p x e f c.loop-i-test.true (behind p x (k - 11) (omega arith) (back16 (nth x (k - 11)) b)))
       ];

@@ -9,5 +9,5 @@ invariant-loop-i l =
     record {
       within : l.i ≤ length l.initial.words;
       going : Going (word_of l.high) (coded_next l.high)
-          (standing l.initial.b 0 l.initial.d 0 l.initial.p l.initial.f) l.x l.initial.words l.b l.d l.p l.f l.o l.words l.i
+          (standing l.initial.b 0 l.initial.d 0 l.initial.p l.initial.f) l.x l.initial.words l.b l.d l.p l.f l.o l.words l.i;
     }

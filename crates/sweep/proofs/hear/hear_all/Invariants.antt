@@ -9,5 +9,5 @@ invariant-loop-i l =
     record {
       within : l.i ≤ length l.initial.signals;
       going : Going (signal_of l.high l.mode) (heard_next l.high)
-          (standing l.initial.b 0 l.initial.d 0 l.initial.p l.initial.f) l.octets l.initial.signals l.b l.d l.p l.f l.o l.signals l.i
+          (standing l.initial.b 0 l.initial.d 0 l.initial.p l.initial.f) l.octets l.initial.signals l.b l.d l.p l.f l.o l.signals l.i;
     }
