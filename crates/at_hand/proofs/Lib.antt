@@ -1,2 +1,3 @@
 -- What this crate proves of its functions together.
+pub mod Signed
 pub mod Unique

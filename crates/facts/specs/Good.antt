@@ -23,7 +23,8 @@ use Rattle.facts.specs.Range.{range_append, range_drop, rl_in_range, rh_in_range
 
 -- ---- a band after a word
 
-second : (s : Poles) (p : ℤ) → (neg 12288 ≤ℤ uppol2 s p) × (uppol2 s p ≤ℤ pos 12288)
+-- the new second coefficient keeps its bounds
+pub second : (s : Poles) (p : ℤ) → (neg 12288 ≤ℤ uppol2 s p) × (uppol2 s p ≤ℤ pos 12288)
 unfolding uppol2
 second s p = clamp_within (neg 12288) (pos 12288) _ (le_z_yes tt)
 
@@ -35,9 +36,9 @@ first s p b l h =
     (omega (zarith, sub_read (pos 15360) b, up_neg (pos 15360 -ℤ b), dn_neg (pos 15360 -ℤ b))))
 
 poles_good : (s : Poles) (p r : ℤ) → good_poles (next_poles s p r) ≡ true
-unfolding good_poles next_poles
+unfolding good_poles next_poles uppol2
 poles_good s p r =
-    let d = second s p in
+    let d : (neg 12288 ≤ℤ uppol2 s p) × (uppol2 s p ≤ℤ pos 12288) = clamp_within (neg 12288) (pos 12288) _ (le_z_yes tt) in
     let e = first s p (uppol2 s p) d.0 d.1 in
     both (is_within d.0 d.1) (is_within e.0 e.1)
 

@@ -33,11 +33,11 @@ pub up_abs : (z : ℤ) → up z ≤ nat_abs z
 up_abs (pos n) = omega arith
 up_abs (negsuc n) = omega arith
 
-dn_abs : (z : ℤ) → dn z ≤ nat_abs z
+pub dn_abs : (z : ℤ) → dn z ≤ nat_abs z
 dn_abs (pos n) = omega arith
 dn_abs (negsuc n) = omega arith
 
-abs_from : (z : ℤ) (n : ℕ) → neg n ≤ℤ z → z ≤ℤ pos n → nat_abs z ≤ n
+pub abs_from : (z : ℤ) (n : ℕ) → neg n ≤ℤ z → z ≤ℤ pos n → nat_abs z ≤ n
 abs_from (pos m) n l h = omega (zarith)
 abs_from (negsuc m) zero l h = omega (zarith)
 abs_from (negsuc m) (suc n) l h = omega (zarith)
@@ -234,18 +234,6 @@ second_abs one two a1 a2 =
     let z = add (add (turned_by one a1) (cond two (pos 128) (neg 128))) (mul a2 (pos 32512)) in
     let w = clamp_within (neg 12288) (pos 12288) z (omega zarith) in
     abs_from (clamp (neg 12288) (pos 12288) z) 12288 w.0 w.1
-
-pub first_abs : (one : Bool) (a1 a2 : ℤ) → nat_abs a1 ≤ 27648 → nat_abs a2 ≤ 12288 → nat_abs (first_of one a1 a2) ≤ 27648
-first_abs one a1 a2 h k =
-    let z = cond one (pos 192) (neg 192) +ℤ shr_z (a1 *ℤ pos 32640) 32768 in
-    let lo = a2 -ℤ pos 15360 in
-    let hi = pos 15360 -ℤ a2 in
-    let u = up_abs a2 in
-    let d = dn_abs a2 in
-    let p = sub_read a2 (pos 15360) in
-    let q = sub_read (pos 15360) a2 in
-    let w = clamp_within lo hi z (omega zarith) in
-    rw (sym (first_is one one a1 a2 h k)) (abs_from (clamp lo hi z) 27648 (omega (zarith, w.0)) (omega (zarith, w.1)))
 
 -- ---- the next record
 

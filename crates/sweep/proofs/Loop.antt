@@ -21,7 +21,8 @@ use Rattle.g722.specs.declared.Zeros.{Zeros}
 use Rattle.g722.specs.declared.Poles.{Poles}
 use Rattle.g722.specs.declared.Factors.{Factors}
 use Rattle.g722.specs.declared.Band.{Band}
-use Rattle.at_hand.specs.Signed.{output_at, outputs_of, outputs_at, invqah_by, invqbl_by}
+use Rattle.at_hand.specs.Signed.{output_at, outputs_of}
+use Rattle.at_hand.proofs.Signed.{outputs_at, invqah_by, invqbl_by}
 use Rattle.idle.specs.Rows.{zeros_at, Quiet, begun_six, begun_quiet}
 use Rattle.idle.specs.Recursive.{poles_of, Fit}
 use Rattle.idle.specs.Factors.{factors_of, Held}

@@ -11,7 +11,7 @@ use Rattle.laws.specs.Back.{back16, back32}
 use Rattle.laws.specs.Size.{sum_fits}
 use Rattle.g722.specs.Arithmetic.{stop, add, mul}
 use Rattle.g722.specs.Band.{filtep}
-use Rattle.at_hand.specs.Signed.{outputs_at, output_small}
+use Rattle.at_hand.proofs.Signed.{outputs_at, output_small}
 use Rattle.idle.specs.Recursive.{poles_of}
 use Rattle.idle.specs.Factors.{factors_of}
 use Rattle.sweep.specs.Turn.{step_by}

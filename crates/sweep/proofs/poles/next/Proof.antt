@@ -5,7 +5,8 @@ use mir.Val.{to_z, of_z}
 use mir.Facts.{to_z-of_z}
 use Rattle.laws.specs.Back.{back32}
 use Rattle.g722.specs.Arithmetic.{same_sign}
-use Rattle.idle.specs.Recursive.{poles_of, second_of, first_of, second_abs, first_abs, next_is}
+use Rattle.idle.specs.Recursive.{poles_of, second_of, first_of, second_abs, next_is}
+use Rattle.idle.proofs.First.{first_abs}
 use Rattle.sweep.proofs.poles.next.Statement.{statement}
 use Rattle.sweep.proofs.poles.next.Tie as tie
 

@@ -13,7 +13,8 @@ use Rattle.laws.specs.Back.{back16, back32}
 use Rattle.laws.specs.Size.{sum_fits, abs_add, abs_mag}
 use Rattle.g722.specs.Arithmetic.{stop, add, mul}
 use Rattle.g722.specs.Band.{next_poles}
-use Rattle.at_hand.specs.Signed.{output_at, outputs_at, output_small, weights_at}
+use Rattle.at_hand.specs.Signed.{output_at}
+use Rattle.at_hand.proofs.Signed.{outputs_at, output_small, weights_at}
 use Rattle.idle.specs.Recursive.{poles_of}
 use Rattle.idle.specs.Factors.{factors_of, weighed}
 use Rattle.sweep.specs.Turn.{step_of, step_by}

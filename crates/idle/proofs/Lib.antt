@@ -1,0 +1,2 @@
+-- What is proved of the recursive part beside the laws of its stops.
+pub mod First
