@@ -2,7 +2,7 @@
 ghost use Rattle.std.specs.Prelude.{◌≡◌, ◌≤◌, ◌<◌, length};
 
 use conference::Desk;
-use libc::STDERR_FILENO;
+use std::io::{Stderr, Write};
 
 // What some ticks leave: the desk after them, how many of their sums were limited, and whether to go on.
 #[derive(Clone, Copy)]
@@ -40,7 +40,7 @@ pub(crate) fn with(t: Onward, more: bool) -> Onward {
 }
 
 // Mixes tick after tick, each an octet a port, and counts. A tick that is refused is said, and is the last.
-pub(crate) fn mix(desk: Desk, modes: &[u8], octets: &[u8], room: &mut [u8]) -> Onward
+pub(crate) fn mix(err: &Stderr, desk: Desk, modes: &[u8], octets: &[u8], room: &mut [u8]) -> Onward
     requires modes_nonzero { 0 < length modes.now }
     requires octets_len_bound { length octets.now ≤ 8000 }
     requires room_len { length room.old ≡ length octets.now }
@@ -53,7 +53,7 @@ pub(crate) fn mix(desk: Desk, modes: &[u8], octets: &[u8], room: &mut [u8]) -> O
         let t = mixer::tick(d, modes, &octets[at..at + n], &mut room[at..at + n]);
         d = t.next;
         if t.number != 0 {
-            refusal::say(t.number, 0);
+            refusal::say(err, t.number, 0);
             return Onward {
                 next: d,
                 limited: limited,
@@ -71,29 +71,16 @@ pub(crate) fn mix(desk: Desk, modes: &[u8], octets: &[u8], room: &mut [u8]) -> O
 }
 
 // Writes octets, and says so where they cannot be written.
-pub(crate) fn written(fd: i32, octets: &[u8]) -> bool {
-    if !io::write_all(fd, octets) {
-        os::fail(b"write");
+pub(crate) fn written(out: &mut impl Write, err: &Stderr, octets: &[u8]) -> bool {
+    if let Err(error) = out.write_all(octets) {
+        refusal::fail(err, b"write", error);
         return false;
     }
     true
 }
 
-// Whether a short read was so because it failed, which is then said: it asks once more.
-pub(crate) fn failed(fd: i32) -> bool {
-    let mut byte = [0u8; 1];
-    if libc::read(fd, &mut byte) < 0 {
-        os::fail(b"read");
-        return true;
-    }
-    false
-}
-
 // The input has more octets than its whole ticks.
-pub(crate) fn say_left_out() {
-    refusal::say(3, 0);
-    io::write_all(
-        STDERR_FILENO,
-        b"left out: what follows the last whole tick\n",
-    );
+pub(crate) fn say_left_out(err: &Stderr) {
+    refusal::say(err, 3, 0);
+    let _ = eprintln!(err; "left out: what follows the last whole tick");
 }

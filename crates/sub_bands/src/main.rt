@@ -6,8 +6,10 @@ ghost use Rattle.std.specs.Prelude.{◌≡◌, ◌*◌, ◌≤◌, length};
 
 use big_endian::sample;
 use g722::Band;
-use libc::{STDERR_FILENO, STDIN_FILENO, STDOUT_FILENO};
 use plain::bands_coded;
+use std::env::{Env, FillError};
+use std::io;
+use std::io::{ErrorKind, Print, Read, Stderr, Stdin, Stdout};
 
 // Both bands of a coder.
 #[derive(Clone, Copy)]
@@ -55,26 +57,22 @@ fn code(b: Bands, pairs: &[u8], octets: &mut [u8]) -> Bands
 }
 
 // Writes bytes, and says so where they cannot be written.
-fn written(bytes: &[u8]) -> bool {
-    if !io::write_all(STDOUT_FILENO, bytes) {
-        os::fail(b"write");
+fn written(out: &Stdout, err: &Stderr, bytes: &[u8]) -> bool {
+    if let Err(error) = out.write_all(bytes) {
+        refusal::fail(err, b"write", error);
         return false;
     }
     true
 }
 
 // Sends a piece: its whole pairs.
-fn send(b: Bands, bytes: &[u8]) -> Onward
+fn send(out: &Stdout, err: &Stderr, b: Bands, bytes: &[u8]) -> Onward
     requires { length bytes.now ≤ 32000 }
 {
     let mut octets = [0u8; 8000];
     let n = bytes.len() / 4;
     let next = code(b, &bytes[..4 * n], &mut octets[..n]);
-    if !written(&octets[..n]) {
-        return last(next);
-    }
-    if bytes.len() % 4 != 0 {
-        say_cut_off();
+    if !written(out, err, &octets[..n]) {
         return last(next);
     }
     Onward {
@@ -92,56 +90,70 @@ fn last(b: Bands) -> Onward {
 }
 
 // The input stopped within a pair: it could not be read on, or its end is left out.
-fn say_cut_off() {
-    let mut byte = [0u8; 1];
-    if libc::read(STDIN_FILENO, &mut byte) < 0 {
-        os::fail(b"read");
+fn say_cut_off(err: &Stderr, error: io::Error) {
+    if error.kind() != ErrorKind::UnexpectedEof {
+        refusal::fail(err, b"read", error);
         return;
     }
-    refusal::say(3, 0);
-    io::write_all(
-        STDERR_FILENO,
-        b"left out: what follows the last whole pair of signals\n",
-    );
+    refusal::say(err, 3, 0);
+    let _ = eprintln!(err; "left out: what follows the last whole pair of signals");
+}
+
+// Sends the pairs before that in which the input stopped.
+fn send_last(out: &Stdout, err: &Stderr, b: Bands, bytes: &[u8], error: io::Error) -> Onward
+    requires { length bytes.now ≤ 32000 }
+{
+    let t = send(out, err, b, bytes);
+    if t.more {
+        say_cut_off(err, error);
+    }
+    last(t.next)
 }
 
 // Reads what has arrived and the rest of its last pair, and sends that: nothing waits for a longer piece.
-fn turn(b: Bands) -> Onward {
+fn turn(input: &mut Stdin, out: &Stdout, err: &Stderr, b: Bands) -> Onward {
     let mut bytes = [0u8; 32000];
-    let got = libc::read(STDIN_FILENO, &mut bytes);
-    if got < 0 {
-        os::fail(b"read");
-        return last(b);
-    }
-    let n = io::count(got, &bytes);
+    let n = match input.read(&mut bytes) {
+        Ok(n) => n,
+        Err(error) => {
+            refusal::fail(err, b"read", error);
+            return last(b);
+        }
+    };
     if n == 0 {
         return last(b);
     }
-    if n % 4 == 0 {
-        return send(b, &bytes[..n]);
+    let whole = n - n % 4;
+    if whole == n {
+        return send(out, err, b, &bytes[..n]);
     }
-    let whole = n - n % 4 + 4;
-    let rest = io::read_full(STDIN_FILENO, &mut bytes[n..whole]);
-    send(b, &bytes[..n + rest])
+    match input.read_exact(&mut bytes[n..whole + 4]) {
+        Ok(()) => send(out, err, b, &bytes[..whole + 4]),
+        Err(error) => send_last(out, err, b, &bytes[..whole], error),
+    }
 }
 
 // Piece after piece. A proved loop has to end, and nothing says that the input does: no run has so many pieces.
-fn run() {
+fn run(input: &mut Stdin, out: &Stdout, err: &Stderr) {
     let mut b = reset();
-    let mut turns = u64::MAX;
-    let mut more = true;
-    while more && turns > 0 {
-        let t = turn(b);
+    for _ in 0..u64::MAX {
+        let t = turn(input, out, err, b);
+        if !t.more {
+            break;
+        }
         b = t.next;
-        more = t.more;
-        turns -= 1;
     }
 }
 
-fn main() {
-    if os::arg_count() != 1 {
-        io::write_all(STDERR_FILENO, b"usage: sub_bands < signals > octets\n");
+// Whether the program was started with a word of this number, its own name being word 0.
+fn has_word(env: &impl Env, i: usize) -> bool {
+    !matches!(env.arg(i, &mut []), Err(FillError::NotPresent))
+}
+
+fn main(rt: HostRuntime) {
+    if has_word(&rt, 1) {
+        let _ = eprintln!(rt; "usage: sub_bands < signals > octets");
         return;
     }
-    run();
+    run(&mut rt.stdin(), &rt.stdout(), &rt.stderr());
 }
