@@ -9,3 +9,6 @@ say = equation (λ κs a l m. refl) (λ M. refusal.say.Met.met)
 
 pub overload : LeavesOne contracts.overload.ended (λ M 𝓤. contracts.overload.clauses) refusal.overload.Symbol.name refusal.overload.Symbol.code
 overload = equation (λ κs a l m. refl) (λ M. refusal.overload.Met.met)
+
+pub fail : LeavesOne contracts.fail.ended (λ M 𝓤. contracts.fail.clauses) refusal.fail.Symbol.name refusal.fail.Symbol.code
+fail = equation (λ κs a l m. refl) (λ M. refusal.fail.Met.met)
