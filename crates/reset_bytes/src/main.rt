@@ -3,37 +3,36 @@
 #![tactic(auto)]
 
 use std::io;
-use std::io::{Print, Stdout};
+use std::io::{Eprint, Print};
 
 // Byte i of a list: 25 stand on a line.
-fn item(out: &Stdout, i: usize, byte: u8) -> io::Result<()> {
+fn item(rt: &impl Print, i: usize, byte: u8) -> io::Result<()> {
     if 0 < i {
-        print!(out; ",")?;
+        print!(rt; ",")?;
     }
     if i % 25 == 0 {
-        print!(out; " \\\n    {byte}")
+        print!(rt; " \\\n    {byte}")
     } else {
-        print!(out; " {byte}")
+        print!(rt; " {byte}")
     }
 }
 
-fn list(out: &Stdout, bytes: &[u8]) -> io::Result<()> {
+fn list(rt: &impl Print, bytes: &[u8]) -> io::Result<()> {
     for i in 0..bytes.len() {
-        item(out, i, bytes[i])?;
+        item(rt, i, bytes[i])?;
     }
     Ok(())
 }
 
 // The two macros of the state that this is, or a line on standard error where it is none.
-fn print(rt: &HostRuntime, name: &str, state: &[u8], written: bool) -> io::Result<()> {
+fn print(rt: &(impl Print + Eprint), name: &str, state: &[u8], written: bool) -> io::Result<()> {
     if !written {
         return eprintln!(rt; "the bytes have not the length of a state");
     }
-    let out = rt.stdout();
-    println!(out; "#define ZELCANDRY_{name}_BYTES {}", state.len())?;
-    print!(out; "#define ZELCANDRY_{name}_RESET {{")?;
-    list(&out, state)?;
-    println!(out; " }}")
+    println!(rt; "#define ZELCANDRY_{name}_BYTES {}", state.len())?;
+    print!(rt; "#define ZELCANDRY_{name}_RESET {{")?;
+    list(rt, state)?;
+    println!(rt; " }}")
 }
 
 fn main(rt: HostRuntime) -> io::Result<()> {
