@@ -6,7 +6,9 @@ ghost use Rattle.std.specs.Prelude.{◌≡◌, get_or};
 ghost use Rattle.g722.specs.Tables.{ila};
 ghost use Rattle.g722.specs.Quantise.{scale_at};
 
-use libc::{STDERR_FILENO, STDOUT_FILENO};
+use std::env::Env;
+use std::io;
+use std::io::Print;
 
 // Table 15: ILA, from address 0 on.
 const ILA: [u16; 353] = [
@@ -58,9 +60,9 @@ fn count(more: u16) -> u64 {
 }
 
 // The number that the argument gives, or 0 where it gives none below 65536.
-fn told() -> u16 {
+fn told(rt: &impl Env) -> u16 {
     let mut word = [0u8; 5];
-    let n = os::arg(1, &mut word);
+    let n = rt.arg(1, &mut word).unwrap_or(0);
     let number = argument::number(&word[..n]);
     if number < 65536 {
         return number as u16;
@@ -68,16 +70,15 @@ fn told() -> u16 {
     0
 }
 
+fn say(out: &impl Print, same: u64) -> io::Result<()> {
+    println!(out; "{same} of 576 addresses have the scale factor of the table")
+}
+
 // The count goes to standard output where it is all of them, and to standard error else.
-fn main() {
-    let same = count(told());
-    let mut out = STDERR_FILENO;
+fn main(rt: HostRuntime) -> io::Result<()> {
+    let same = count(told(&rt));
     if same == 576 {
-        out = STDOUT_FILENO;
+        return say(&rt.stdout(), same);
     }
-    io::print_decimal(out, same);
-    io::write_all(
-        out,
-        b" of 576 addresses have the scale factor of the table\n",
-    );
+    say(&rt.stderr(), same)
 }

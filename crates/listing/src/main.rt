@@ -5,9 +5,12 @@ ghost use Rattle.std.specs.Prelude.{◌≡◌, ◌≤◌, length};
 ghost use Rattle.lines.specs.Lines.{line_of};
 ghost use Rattle.listing.specs.Listed.{listed};
 
-use libc::{STDERR_FILENO, STDIN_FILENO, STDOUT_FILENO};
 use lines::Line;
 use playing::{Played, Player};
+use std::alloc::Global;
+use std::env::{Env, FillError};
+use std::io;
+use std::io::{Print, Read, Stderr, Stdin, Stdout};
 
 // What a block leaves: the player after it, and whether to read on.
 #[derive(Clone, Copy)]
@@ -28,18 +31,18 @@ fn listed(p: Played, before: u64) -> Line
 }
 
 // Writes out the bytes from a place on.
-fn write_from(bytes: &[u8], at: usize) -> bool
+fn write_from(out: &Stdout, bytes: &[u8], at: usize) -> io::Result<()>
     requires { at ≤ length bytes.now }
 {
-    io::write_all(STDOUT_FILENO, &bytes[at..])
+    out.write_all(&bytes[at..])
 }
 
 // Writes a line out.
-fn print(line: Line) -> bool
+fn print(out: &Stdout, line: Line) -> io::Result<()>
     requires { line.at ≤ 160 }
 {
     let bytes = line.bytes;
-    write_from(&bytes, line.at)
+    write_from(out, &bytes, line.at)
 }
 
 // After the last line.
@@ -51,15 +54,22 @@ fn last(p: Player) -> Onward {
 }
 
 // Plays a block, or a shorter last piece, and prints its line.
-fn list(p: Player, before: u64, block: &[u8], samples: &mut [i16]) -> Onward {
+fn list(
+    out: &Stdout,
+    err: &Stderr,
+    p: Player,
+    before: u64,
+    block: &[u8],
+    samples: &mut [i16],
+) -> Onward {
     let played = player::play(p, block, samples);
     let next = played.next;
-    if !print(listed(played, before)) {
-        os::fail(b"write");
+    if let Err(error) = print(out, listed(played, before)) {
+        refusal::fail(err, b"write", error);
         return last(next);
     }
     if played.number != 0 {
-        io::write_all(STDERR_FILENO, b"stopped at a block that is refused\n");
+        let _ = eprintln!(err; "stopped at a block that is refused");
         return last(next);
     }
     Onward {
@@ -68,39 +78,55 @@ fn list(p: Player, before: u64, block: &[u8], samples: &mut [i16]) -> Onward {
     }
 }
 
-// Reads a block and lists it. After a short one it asks once more, since a read that fails is not the end.
-fn turn(p: Player, before: u64, samples: &mut [i16]) -> Onward {
-    let mut block = [0u8; 512];
-    let mut byte = [0u8; 1];
-    let got = io::read_full(STDIN_FILENO, &mut block);
-    if got < 512 && libc::read(STDIN_FILENO, &mut byte) < 0 {
-        os::fail(b"read");
-        return last(p);
+// Reads a block, or what is left where that is less. Nothing waits for more than the block.
+fn piece(input: &mut Stdin, alloc: Global) -> io::Result<Vec<u8>> {
+    let mut bytes = Vec::new(alloc);
+    input.by_ref().take(512).read_to_end(&mut bytes)?;
+    Ok(bytes)
+}
+
+// Reads a block and lists it.
+fn turn(
+    input: &mut Stdin,
+    out: &Stdout,
+    err: &Stderr,
+    alloc: Global,
+    p: Player,
+    before: u64,
+    samples: &mut [i16],
+) -> Onward {
+    match piece(input, alloc) {
+        Ok(block) if block.len() == 0 => last(p),
+        Ok(block) => list(out, err, p, before, &block, samples),
+        Err(error) => {
+            refusal::fail(err, b"read", error);
+            last(p)
+        }
     }
-    if got == 0 {
-        return last(p);
-    }
-    list(p, before, &block[..got], samples)
 }
 
 // Block after block. A proved loop has to end, and nothing says that the input does: no recording has so many blocks.
-fn run() {
+fn run(input: &mut Stdin, out: &Stdout, err: &Stderr, alloc: Global) {
     let mut samples = [0i16; 960];
     let mut p = player::start();
-    let mut before: u64 = 0;
-    let mut more = true;
-    while more && before < u64::MAX {
-        let t = turn(p, before, &mut samples);
+    for before in 0..u64::MAX {
+        let t = turn(input, out, err, alloc, p, before, &mut samples);
+        if !t.more {
+            return;
+        }
         p = t.next;
-        more = t.more;
-        before += 1;
     }
 }
 
-fn main() {
-    if os::arg_count() != 1 {
-        io::write_all(STDERR_FILENO, b"usage: listing < recording\n");
+// Whether the program was started with a word of this number, its own name being word 0.
+fn has_word(env: &impl Env, i: usize) -> bool {
+    !matches!(env.arg(i, &mut []), Err(FillError::NotPresent))
+}
+
+fn main(rt: HostRuntime) {
+    if has_word(&rt, 1) {
+        let _ = eprintln!(rt; "usage: listing < recording");
         return;
     }
-    run();
+    run(&mut rt.stdin(), &rt.stdout(), &rt.stderr(), rt.alloc());
 }

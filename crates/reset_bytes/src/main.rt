@@ -2,48 +2,43 @@
 // bytes stands there by the code that writes states, and by nobody's hand.
 #![tactic(auto)]
 
-use libc::{STDERR_FILENO, STDOUT_FILENO};
+use std::io;
+use std::io::{Eprint, Print};
 
 // Byte i of a list: 25 stand on a line.
-fn item(i: usize, byte: u8) {
+fn item(rt: &impl Print, i: usize, byte: u8) -> io::Result<()> {
     if 0 < i {
-        io::write_all(STDOUT_FILENO, b",");
+        print!(rt; ",")?;
     }
     if i % 25 == 0 {
-        io::write_all(STDOUT_FILENO, b" \\\n    ");
+        print!(rt; " \\\n    {byte}")
     } else {
-        io::write_all(STDOUT_FILENO, b" ");
+        print!(rt; " {byte}")
     }
-    io::print_decimal(STDOUT_FILENO, byte as u64);
 }
 
-fn list(bytes: &[u8]) {
+fn list(rt: &impl Print, bytes: &[u8]) -> io::Result<()> {
     for i in 0..bytes.len() {
-        item(i, bytes[i]);
+        item(rt, i, bytes[i])?;
     }
+    Ok(())
 }
 
 // The two macros of the state that this is, or a line on standard error where it is none.
-fn print(name: &[u8], state: &[u8], written: bool) {
+fn print(rt: &(impl Print + Eprint), name: &str, state: &[u8], written: bool) -> io::Result<()> {
     if !written {
-        io::write_all(STDERR_FILENO, b"the bytes have not the length of a state\n");
-        return;
+        return eprintln!(rt; "the bytes have not the length of a state");
     }
-    io::write_all(STDOUT_FILENO, b"#define ZELCANDRY_");
-    io::write_all(STDOUT_FILENO, name);
-    io::write_all(STDOUT_FILENO, b"_BYTES ");
-    io::print_decimal(STDOUT_FILENO, state.len() as u64);
-    io::write_all(STDOUT_FILENO, b"\n#define ZELCANDRY_");
-    io::write_all(STDOUT_FILENO, name);
-    io::write_all(STDOUT_FILENO, b"_RESET {");
-    list(state);
-    io::write_all(STDOUT_FILENO, b" }\n");
+    println!(rt; "#define ZELCANDRY_{name}_BYTES {}", state.len())?;
+    print!(rt; "#define ZELCANDRY_{name}_RESET {{")?;
+    list(rt, state)?;
+    println!(rt; " }}")
 }
 
-fn main() {
+fn main(rt: HostRuntime) -> io::Result<()> {
     let mut state = [0u8; 125];
     let coder = state::write_coder(coder::reset(), &mut state);
-    print(b"CODER", &state, coder);
+    print(&rt, "CODER", &state, coder)?;
     let decoder = state::write_decoder(decoder::reset(), &mut state);
-    print(b"DECODER", &state, decoder);
+    print(&rt, "DECODER", &state, decoder)
 }

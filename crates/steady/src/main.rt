@@ -2,7 +2,9 @@
 // Two arguments, if given, make wrong levels to be caught: what XL is to differ from c by, and what XH is to be.
 #![tactic(auto)]
 
-use libc::{STDERR_FILENO, STDOUT_FILENO};
+use std::env::Env;
+use std::io;
+use std::io::Print;
 
 // Whether XL and XH are these after 24 samples c.
 fn steady(c: i16, low: i16, high: i16) -> bool {
@@ -30,9 +32,9 @@ fn count(more: i16, high: i16) -> u64 {
 }
 
 // The number that argument i gives, or 0 where it gives none below 32768.
-fn told(i: usize) -> i16 {
+fn told(rt: &impl Env, i: usize) -> i16 {
     let mut word = [0u8; 5];
-    let n = os::arg(i, &mut word);
+    let n = rt.arg(i, &mut word).unwrap_or(0);
     let number = argument::number(&word[..n]);
     if number < 32768 {
         return number as i16;
@@ -40,13 +42,15 @@ fn told(i: usize) -> i16 {
     0
 }
 
+fn say(out: &impl Print, held: u64) -> io::Result<()> {
+    println!(out; "{held} of 32768 steady levels")
+}
+
 // The count goes to standard output where all are steady, and to standard error else.
-fn main() {
-    let held = count(told(1), told(2));
-    let mut out = STDERR_FILENO;
+fn main(rt: HostRuntime) -> io::Result<()> {
+    let held = count(told(&rt, 1), told(&rt, 2));
     if held == 32768 {
-        out = STDOUT_FILENO;
+        return say(&rt.stdout(), held);
     }
-    io::print_decimal(out, held);
-    io::write_all(out, b" of 32768 steady levels\n");
+    say(&rt.stderr(), held)
 }

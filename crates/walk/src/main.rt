@@ -4,10 +4,11 @@
 ghost use Rattle.std.specs.Prelude.{◌≡◌, ◌≤◌, length};
 ghost use Rattle.reader.specs.Walk.{step_at, next_at};
 
-use libc::{STDERR_FILENO, STDIN_FILENO, STDOUT_FILENO};
 use lines::Line;
 use playing::Player;
 use reader::{Reader, Step};
+use std::io;
+use std::io::{Eprint, Print, Read};
 
 // What the reader says at first.
 fn first(src: &[u8]) -> Step
@@ -24,18 +25,18 @@ fn after(src: &[u8], at: usize) -> Step
 }
 
 // Writes out the bytes from a place on.
-fn write_from(bytes: &[u8], at: usize) -> bool
+fn write_from(rt: &impl Print, bytes: &[u8], at: usize) -> io::Result<()>
     requires { at ≤ length bytes.now }
 {
-    io::write_all(STDOUT_FILENO, &bytes[at..])
+    rt.write_all(&bytes[at..])
 }
 
 // Writes a line out.
-fn print(line: Line) -> bool
+fn print(rt: &impl Print, line: Line) -> io::Result<()>
     requires { line.at ≤ 160 }
 {
     let bytes = line.bytes;
-    write_from(&bytes, line.at)
+    write_from(rt, &bytes, line.at)
 }
 
 // The line of what the reader says of a block, with the samples at its ends and the count of the limited ones; or of a refusal after so
@@ -59,48 +60,59 @@ struct Onward {
 }
 
 // Plays a whole block and prints the line of what the reader says of it.
-fn list(p: Player, s: Step, before: usize, block: &[u8], samples: &mut [i16]) -> Onward {
+fn list(
+    rt: &(impl Print + Eprint),
+    p: Player,
+    s: Step,
+    before: usize,
+    block: &[u8],
+    samples: &mut [i16],
+) -> io::Result<Onward> {
     let played = player::play(p, block, samples);
     let next = played.next;
-    let printed = print(line(s, played.first, played.last, played.limited, before));
+    print(
+        rt,
+        line(s, played.first, played.last, played.limited, before),
+    )?;
     if played.number != 0 {
-        io::write_all(STDERR_FILENO, b"stopped at a block that is refused\n");
+        eprintln!(rt; "stopped at a block that is refused")?;
     }
-    Onward {
+    Ok(Onward {
         next: next,
-        more: printed && played.number == 0,
-    }
+        more: played.number == 0,
+    })
 }
 
 // Past the last whole block: the end, or a shorter piece.
-fn finish(s: Step, before: usize) {
+fn finish(rt: &(impl Print + Eprint), s: Step, before: usize) -> io::Result<()> {
     if !s.end {
-        print(line(s, 0, 0, 0, before));
-        io::write_all(STDERR_FILENO, b"stopped at a block that is refused\n");
+        print(rt, line(s, 0, 0, 0, before))?;
+        eprintln!(rt; "stopped at a block that is refused")?;
     }
+    Ok(())
 }
 
 // Walks over the whole blocks and to the end.
-fn run(src: &[u8]) {
+fn run(rt: &(impl Print + Eprint), src: &[u8]) -> io::Result<()> {
     let mut samples = [0i16; 960];
     let mut p = player::start();
     let mut s = first(src);
     let mut at: usize = 0;
     while at < src.len() / 512 {
         let from = 512 * at;
-        let t = list(p, s, at, &src[from..from + 512], &mut samples);
+        let t = list(rt, p, s, at, &src[from..from + 512], &mut samples)?;
         if !t.more {
-            return;
+            return Ok(());
         }
         p = t.next;
         s = after(src, at);
         at += 1;
     }
-    finish(s, at);
+    finish(rt, s, at)
 }
 
-fn main() {
-    let mut bytes = io::large_buffer();
-    let n = io::read_full(STDIN_FILENO, &mut bytes);
-    run(&bytes[..n]);
+fn main(rt: HostRuntime) -> io::Result<()> {
+    let mut bytes = Vec::new(rt.alloc());
+    rt.stdin().take(65536).read_to_end(&mut bytes)?;
+    run(&rt, &bytes)
 }
