@@ -1,7 +1,7 @@
 -- A signed number that lies in a local is bits, and every read of z is `to_z w (of_z w z)`: it is z, since z fits.
---     to_z-of_z c.fits.x                          a parameter (mir.Facts)
---     got16 c.before.clamp                      a call's result, from the call's record
---     back16 z h                                    an element or a field, with its bound
+--     to_z-of_z c.ranges.x                          a parameter
+--     got16 c.before.clamp                          a call's result, from the call's record, where no argument is a record
+--     back16 z h                                    an element, a field or any call's result, with its bound
 -- Assumes nothing.
 use Rattle.std.specs.Prelude.{◌≡◌, List, ℕ, ◌<◌, ◌^◌, ℤ}
 use Rattle.std.proofs.Common.{◌∙◌, SFits, to_z, of_z, to_z-of_z}
