@@ -97,8 +97,8 @@ fn run(rt: &(impl Print + Eprint), src: &[u8]) -> io::Result<()> {
     let mut samples = [0i16; 960];
     let mut p = player::start();
     let mut s = first(src);
-    let mut at: usize = 0;
-    while at < src.len() / 512 {
+    let whole = src.len() / 512;
+    for at in 0..whole {
         let from = 512 * at;
         let t = list(rt, p, s, at, &src[from..from + 512], &mut samples)?;
         if !t.more {
@@ -106,9 +106,8 @@ fn run(rt: &(impl Print + Eprint), src: &[u8]) -> io::Result<()> {
         }
         p = t.next;
         s = after(src, at);
-        at += 1;
     }
-    finish(rt, s, at)
+    finish(rt, s, whole)
 }
 
 fn main(rt: HostRuntime) -> io::Result<()> {

@@ -1,6 +1,8 @@
 -- `listing::listed` meets its contract: the definition makes the same test.
-use Rattle.std.proofs.Common.{eq-eqb}
+use Rattle.std.proofs.Common.{eq-eqb, rules, ◌<◌, ◌^◌}
+use Rattle.std.specs.Int.Signed.{mag}
 use borrow.Author.Tests.{ne_eqb}
+use Rattle.laws.specs.Back.{back16}
 use Rattle.listing.specs.Listed.{listed}
 use Rattle.listing.proofs.listed.Goals as goal
 
@@ -10,4 +12,8 @@ returns-then-number-ne0 c = rw (ne_eqb c.args.p.number 0 c.if-number-ne0.true) c
 
 pub returns : goal.returns
 unfolding listed
-returns c = rw (eq-eqb c.args.p.number 0 c.if-number-ne0.false) c.block_line.ensures
+returns c =
+    let p = c.args.p in
+    let first : mag p.first < 2 ^ 15 = search rules in
+    let last : mag p.last < 2 ^ 15 = search rules in
+    rw (eq-eqb p.number 0 c.if-number-ne0.false) (rw (back16 p.first first, back16 p.last last) at c.block_line.ensures)
