@@ -143,6 +143,23 @@ def refused(log, texts, owner, others):
     return bool(places(log, texts, owner) or re.search(rf"/proofs/Unique\.antt:\d+:\d+: error: `{entry}`{UNFIT}", log))
 
 
+def fits(log, texts, owner):
+    """A function's proof files with the names that its steps have now: rattle names a step after its condition, so a changed condition
+    takes names away that the proof cites."""
+    near = r"(?:has no `([^`]+)` that can be named from here \(did you mean `([^`]+)`|has no field `([^`]+)` \(nearest: \.([\w'-]+))"
+    moved = {}
+    for said in re.findall(rf"/proofs/{owner}/[^/\n]*\.antt:\d+:\d+: error: .*{near}", log):
+        old, new = said[:2] if said[0] else said[2:]
+        moved[old] = new
+        # what a step is named after is in the names of the goals behind it too
+        if old.startswith("if-") and new.startswith("if-"):
+            moved[old.removeprefix("if")] = new.removeprefix("if")
+    names = re.compile("|".join(rf"(?<![\w'-]){re.escape(n)}(?![\w'-])" if n[0] != "-" else rf"{re.escape(n)}(?![\w'])" for n in moved) or "(?!)")
+    files = [file for file in texts if re.fullmatch(rf"proofs/{owner}/[^/]*\.antt", file)]
+    brought = {file: names.sub(lambda found: moved[found[0]], texts[file]) for file in files}
+    return {file: text for file, text in brought.items() if text != texts[file]}
+
+
 def idle(log, texts, error, beside):
     """What of an error a log does not show refused, where those beside it were tried with it: of changed definitions one has to be, of
     functions each, at the place that is said. Where an error was tried alone, whatever theorem or case is refused is refused for it."""
