@@ -33,7 +33,7 @@
  * Threads    Nothing is kept between calls and nothing is allocated, so threads may call at the same time, each on
  *            memory of its own.
  * Stack      At most 40 kB a call, and 72 kB in zelcandry_join.
- * Machine    x86-64, any of them. The archive needs nothing else, not even the C library.
+ * Machine    x86-64, any of them. The archive needs nothing else but memset, which every C library has.
  */
 #ifndef ZELCANDRY_H
 #define ZELCANDRY_H

@@ -11,8 +11,8 @@ import sys
 from collections import namedtuple
 
 ROOT = pathlib.Path(__file__).resolve().parent.parent
-ITEM = re.compile(r'^(?:pub(?:\(crate\))? )?(?:extern "C" )?(\w+) (?:\w+::)*(\w+)', re.M)
-DEFINED = re.compile(r"^ *(?:unfoldable |abbrev )?(?:pub )?([\w-]+) :(?=\s)", re.M)
+ITEM = re.compile(r'^(?:pub(?:\(crate\))? )?(?:ghost )?(?:extern "C" )?(\w+) (?:\w+::)*(\w+)', re.M)
+DEFINED = re.compile(r"^ *(?:unfoldable |abbrev )?(?:pub )?([\w'-]+) :(?=\s)", re.M)
 MODULE = re.compile(r"( *)module ")
 STARTS = re.compile(rf"{DEFINED.pattern}|^{MODULE.pattern}", re.M)
 # What a pair belongs to: functions, each by the folder of its proof, as octet/step; or a definition, as =definition.
@@ -50,14 +50,13 @@ def defined(text, at):
     return DEFINED.findall(body)
 
 
-def pair_of(file, old, new, text):
-    """A pair, with what it belongs to."""
-    at = text.index(old)
+def belonging(file, text, at):
+    """What a place of a file belongs to, and what it lends to."""
     part, *folders = pathlib.PurePath(file).with_suffix("").parts
     if part == "src":
         module = [f for f in folders if f not in ("lib", "main", "mod")]
-        return Pair(file, old, new, *(["/".join([*module, name]) for name in names] for names in owners(text, at)))
-    return Pair(file, old, new, ["=" + name for name in defined(text, at)] if len(folders) == 1 else [], [])
+        return (["/".join([*module, name]) for name in names] for names in owners(text, at))
+    return ["=" + name for name in defined(text, at)] if len(folders) == 1 else [], []
 
 
 def errors_of(edit, texts):
@@ -83,7 +82,7 @@ def errors_of(edit, texts):
             if not old or texts.get(file, "").count(old) != 1:
                 sys.exit(f"sweep: FAILED: {edit.relative_to(ROOT)}: `{old}` does not stand once in {file}")
             errors += [] if named else [Error("", set(), [])]
-            errors[-1].pairs.append(pair_of(file, old, value, texts[file]))
+            errors[-1].pairs.append(Pair(file, old, value, *belonging(file, texts[file], texts[file].index(old))))
             errors[-1].places.update(places)
             texts[file], places = texts[file].replace(old, value), set()
     return errors
@@ -104,43 +103,68 @@ def crowded(errors):
             yield owner
 
 
+# What a proof says where it no longer fits the text, which is not that a fact is wrong.
+UNFIT = r"(?!.*(?:was not admitted|was rejected|is not in scope|has no field|has no `[^`]*`))"
+
+
 def told_by(log, texts):
     """The theorems and cases that a log has an error of their own in, each with its statement."""
-    for file, name in re.findall(r"/((?:specs|proofs)/\w+)\.antt:\d+:\d+: error: `([\w-]+)`(?!.*was not admitted)", log):
+    for file, name in re.findall(rf"/((?:specs|proofs)/\w+)\.antt:\d+:\d+: error: `([\w'-]+)`{UNFIT}", log):
         stated = re.search(rf"^ *(unfoldable |abbrev )?(?:pub )?{name} :\s.*?\n\n", texts[f"{file}.antt"] + "\n\n", re.M | re.S)
         if stated and not stated[1]:
             yield name, stated[0]
 
 
+def unproved(log, texts, owner):
+    """The goals of a function that the search for a proof left open: by what is said of the function, or by a note at a place of its text.
+    rt ci gives no more than the first note."""
+    said = re.search(rf"^fn \w+::{owner.replace('/', '::')}: no proof: .*?`search` did not prove ([^;\n]*)", log, re.M)
+    yield from re.findall(r"`([^`]+)`", said[1]) if said else []
+    for file, line, goal in re.findall(r"^note: (src/[\w/]+\.rt):(\d+):\d+: it is not proved that .*\(`([^`]+)`\)", log, re.M):
+        at = sum(map(len, texts[file].splitlines(True)[:int(line) - 1]))
+        yield from [goal] if owner in [*belonging(file, texts[file], at)][0] else []
+
+
 def places(log, texts, owner):
-    """Where a log has errors of their own: declarations of a function's proof, or for a definition theorems and cases."""
+    """Where a log has errors of their own: goals or declarations of a function's proof, or for a definition theorems and cases."""
     if owner.startswith("="):
         return {name for name, _ in told_by(log, texts)}
-    return {*re.findall(rf"/proofs/{owner}/[^/\n]*\.antt:\d+:\d+: error: `([^`]+)`(?!.*was not admitted)", log)}
+    return {*re.findall(rf"/proofs/{owner}/[^/\n]*\.antt:\d+:\d+: error: `([^`]+)`{UNFIT}", log), *unproved(log, texts, owner)}
 
 
-def refused(log, texts, crate, owner, others):
+def refused(log, texts, owner, others):
     """Whether a log has a function refused by an error of its own, or a definition by a theorem or case that names it. A theorem that is
     itself one of the others that were changed speaks for itself alone. A contract that promises less has its proof still, and its entry in
     Unique refuses it."""
     if owner.startswith("="):
-        named = re.compile(rf"(?<![\w-]){owner[1:]}(?![\w-])")
+        named = re.compile(rf"(?<![\w'-]){owner[1:]}(?![\w'-])")
         return any(named.search(stated) for name, stated in told_by(log, texts) if "=" + name not in others)
-    entry = owner.rpartition("/")[2].replace("_", "-")
-    if re.search(rf"/proofs/Unique\.antt:\d+:\d+: error: `{entry}`(?!.*was not admitted)", log):
-        return True
-    verdict = re.search(rf"^fn {crate}::{owner.replace('/', '::')}: (.*)", log, re.M)
-    if not verdict or verdict[1].startswith("no proof:"):
-        return bool(verdict) and "does not close" in verdict[1]
-    errors = re.findall(rf"/proofs/{owner}/[^/\n]*\.antt:\d+:\d+: error: (.*)", log)
-    return verdict[1].startswith("not proved") and any("was not admitted" not in error for error in errors)
+    entry = owner.rpartition("/")[2]
+    return bool(places(log, texts, owner) or re.search(rf"/proofs/Unique\.antt:\d+:\d+: error: `{entry}`{UNFIT}", log))
 
 
-def idle(log, texts, crate, error, beside):
+def fits(log, texts, owner):
+    """A function's proof files with the names that its steps have now: rattle names a step after its condition, so a changed condition
+    takes names away that the proof cites."""
+    near = r"(?:has no `([^`]+)` that can be named from here \(did you mean `([^`]+)`|has no field `([^`]+)` \(nearest: \.([\w'-]+))"
+    moved = {}
+    for said in re.findall(rf"/proofs/{owner}/[^/\n]*\.antt:\d+:\d+: error: .*{near}", log):
+        old, new = said[:2] if said[0] else said[2:]
+        moved[old] = new
+        # what a step is named after is in the names of the goals behind it too
+        if old.startswith("if-") and new.startswith("if-"):
+            moved[old.removeprefix("if")] = new.removeprefix("if")
+    names = re.compile("|".join(rf"(?<![\w'-]){re.escape(n)}(?![\w'-])" if n[0] != "-" else rf"{re.escape(n)}(?![\w'])" for n in moved) or "(?!)")
+    files = [file for file in texts if re.fullmatch(rf"proofs/{owner}/[^/]*\.antt", file)]
+    brought = {file: names.sub(lambda found: moved[found[0]], texts[file]) for file in files}
+    return {file: text for file, text in brought.items() if text != texts[file]}
+
+
+def idle(log, texts, error, beside):
     """What of an error a log does not show refused, where those beside it were tried with it: of changed definitions one has to be, of
     functions each, at the place that is said. Where an error was tried alone, whatever theorem or case is refused is refused for it."""
     owned = belongs(error) or ["nothing that it belongs to"]
     others = {o for e in beside for o in belongs(e) if o.startswith("=")} - {*owned}
-    left = [o for o in owned if not refused(log, texts, crate, o, others) or error.places and not error.places <= places(log, texts, o)]
+    left = [o for o in owned if not refused(log, texts, o, others) or error.places and not error.places <= places(log, texts, o)]
     meant = owned[0].startswith("=")
     return [] if meant and (len(left) < len(owned) or not beside and any(told_by(log, texts))) else left

@@ -19,8 +19,7 @@ fn packed(number: u8, index: usize, limited: u32) -> u64
 }
 
 // Codes 4n bytes of samples to n octets.
-#[unsafe(no_mangle)]
-pub extern "C" fn zelcandry_code(state: &mut [u8], samples: &[u8], octets: &mut [u8]) -> u64
+pub fn zelcandry_code(state: &mut [u8], samples: &[u8], octets: &mut [u8]) -> u64
     ensures { Does (code_bytes state.old samples.now octets.old) result
         (state.new, octets.new) }
 {
@@ -33,8 +32,7 @@ pub extern "C" fn zelcandry_code(state: &mut [u8], samples: &[u8], octets: &mut 
 }
 
 // Decodes n octets to 4n bytes of samples, in a told mode.
-#[unsafe(no_mangle)]
-pub extern "C" fn zelcandry_decode(
+pub fn zelcandry_decode(
     state: &mut [u8],
     mode: u8,
     octets: &[u8],
@@ -52,8 +50,7 @@ pub extern "C" fn zelcandry_decode(
 }
 
 // Puts data into octets.
-#[unsafe(no_mangle)]
-pub extern "C" fn zelcandry_put(mode: u8, octets: &mut [u8], bytes: &[u8]) -> u64
+pub fn zelcandry_put(mode: u8, octets: &mut [u8], bytes: &[u8]) -> u64
     ensures { Does (put_bytes mode octets.old bytes.now) result octets.new }
 {
     let a = cue::put(mode, octets, bytes);
@@ -61,8 +58,7 @@ pub extern "C" fn zelcandry_put(mode: u8, octets: &mut [u8], bytes: &[u8]) -> u6
 }
 
 // Takes data out of octets.
-#[unsafe(no_mangle)]
-pub extern "C" fn zelcandry_take(mode: u8, octets: &[u8], bytes: &mut [u8]) -> u64
+pub fn zelcandry_take(mode: u8, octets: &[u8], bytes: &mut [u8]) -> u64
     ensures { Does (take_bytes mode octets.now bytes.old) result bytes.new }
 {
     let a = cue::take(mode, octets, bytes);

@@ -1,5 +1,5 @@
-// The two steps of decoding for a host that is not Rattle. They are a library of their own, which is compiled by itself: in one with
-// `zelcandry_decode` the compiler would no longer put into its loops what the steps call too.
+// The two steps of decoding for a host that is not Rattle. They are a library of their own, so that their archive (`host_steps_c`) is
+// compiled by itself: in one with `zelcandry_decode` the compiler would no longer put into its loops what the steps call too.
 #![tactic(auto)]
 
 ghost use Rattle.std.specs.Prelude.{◌≡◌, ◌<◌, ◌^◌};
@@ -19,8 +19,7 @@ fn packed(number: u8, index: usize, limited: u32) -> u64
 }
 
 // The first step: n octets to 2n bytes of low and 2n of high signals, in a told mode.
-#[unsafe(no_mangle)]
-pub extern "C" fn zelcandry_hear(
+pub fn zelcandry_hear(
     state: &mut [u8],
     mode: u8,
     octets: &[u8],
@@ -39,8 +38,7 @@ pub extern "C" fn zelcandry_hear(
 }
 
 // The second step: 2n bytes of low and 2n of high signals to 4n bytes of samples.
-#[unsafe(no_mangle)]
-pub extern "C" fn zelcandry_join(
+pub fn zelcandry_join(
     state: &mut [u8],
     low: &[u8],
     high: &[u8],
