@@ -65,7 +65,10 @@ fn arrived(input: &mut Stdin, err: &Stderr, octets: &mut [u8], ports: usize) -> 
         Ok(n) => n,
         Err(error) => {
             refusal::fail(err, b"read", error);
-            0
+            return Piece {
+                count: 0,
+                cut_off: None,
+            };
         }
     };
     let whole = n - n % ports;

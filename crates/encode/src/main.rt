@@ -151,14 +151,13 @@ fn turn(input: &mut Stdin, out: &Stdout, err: &Stderr, c: Coder, start: u64) -> 
 fn run(input: &mut Stdin, out: &Stdout, err: &Stderr) {
     let mut c = coder::reset();
     let mut start: u64 = 0;
-    let mut turns: u64 = 281474976710656;
-    let mut more = true;
-    while more && turns > 0 {
+    for _ in 0..281474976710656u64 {
         let t = turn(input, out, err, c, start);
+        if !t.more {
+            break;
+        }
         c = t.next;
         start = t.start;
-        more = t.more;
-        turns -= 1;
     }
 }
 
