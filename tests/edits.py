@@ -103,13 +103,13 @@ def crowded(errors):
             yield owner
 
 
-# What a proof says where it no longer fits the text, which is not that a fact is wrong.
-UNFIT = r"(?!.*(?:was not admitted|was rejected|is not in scope|has no field|has no `[^`]*`))"
+# Not what a proof says where something else that it stands on was refused.
+OWN = r"(?!.*(?:was not admitted|was rejected))"
 
 
 def told_by(log, texts):
     """The theorems and cases that a log has an error of their own in, each with its statement."""
-    for file, name in re.findall(rf"/((?:specs|proofs)/\w+)\.antt:\d+:\d+: error: `([\w'-]+)`{UNFIT}", log):
+    for file, name in re.findall(rf"/((?:specs|proofs)/\w+)\.antt:\d+:\d+: error: `([\w'-]+)`{OWN}", log):
         stated = re.search(rf"^ *(unfoldable |abbrev )?(?:pub )?{name} :\s.*?\n\n", texts[f"{file}.antt"] + "\n\n", re.M | re.S)
         if stated and not stated[1]:
             yield name, stated[0]
@@ -129,7 +129,7 @@ def places(log, texts, owner):
     """Where a log has errors of their own: goals or declarations of a function's proof, or for a definition theorems and cases."""
     if owner.startswith("="):
         return {name for name, _ in told_by(log, texts)}
-    return {*re.findall(rf"/proofs/{owner}/[^/\n]*\.antt:\d+:\d+: error: `([^`]+)`{UNFIT}", log), *unproved(log, texts, owner)}
+    return {*re.findall(rf"/proofs/{owner}/[^/\n]*\.antt:\d+:\d+: error: `([^`]+)`{OWN}", log), *unproved(log, texts, owner)}
 
 
 def refused(log, texts, owner, others):
@@ -140,7 +140,7 @@ def refused(log, texts, owner, others):
         named = re.compile(rf"(?<![\w'-]){owner[1:]}(?![\w'-])")
         return any(named.search(stated) for name, stated in told_by(log, texts) if "=" + name not in others)
     entry = owner.rpartition("/")[2]
-    return bool(places(log, texts, owner) or re.search(rf"/proofs/Unique\.antt:\d+:\d+: error: `{entry}`{UNFIT}", log))
+    return bool(places(log, texts, owner) or re.search(rf"/proofs/Unique\.antt:\d+:\d+: error: `{entry}`{OWN}", log))
 
 
 def fits(log, texts, owner):
