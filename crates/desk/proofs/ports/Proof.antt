@@ -6,7 +6,7 @@ use native.Mathlib.Omega.{arith}
 use borrow.Author.Rules.{rules}
 use Rattle.laws.specs.Order.{by_test}
 use Rattle.conference.specs.Tick.{unseated, reset_call}
-use Rattle.conference.specs.Cases.{seated}
+use Rattle.conference.proofs.Cases.{seated}
 use Rattle.desk.proofs.ports.Statement.{statement}
 use Rattle.desk.proofs.ports.Tie as tie
 
