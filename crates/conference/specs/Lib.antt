@@ -2,11 +2,4 @@
 pub mod Sums
 pub mod Ports
 pub mod Tick
-pub mod Cases
-pub mod Rows
-pub mod Total
 pub mod Own
-pub mod Mixing
-pub mod Codec
-pub mod Good
-pub mod Telling

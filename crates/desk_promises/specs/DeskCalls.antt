@@ -5,9 +5,9 @@ use Rattle.std.specs.Prelude.{◌≡◌, refl, true, List, [], ◌∷◌, ◌++�
 use Rattle.std.proofs.Common.{sym, ap, ◌∙◌, append-nil, eqb-true}
 use Rattle.std.proofs.lemmas.Bool.{eqb-false}
 use Rattle.conference.specs.Tick.{octets_to, desk_after, tick_limited, tick_call}
-use Rattle.conference.specs.Cases.{refused, accepted}
+use Rattle.conference.proofs.Cases.{refused, accepted}
 use Rattle.conference.specs.Own.{TickInput}
-use Rattle.conference.specs.Good.{GoodDesk, desk_stays_good}
+use Rattle.conference.proofs.Good.{GoodDesk, desk_stays_good}
 use Rattle.conference.specs.declared.Desk.{Desk}
 use Rattle.conference.specs.declared.Ticked.{Ticked}
 use Rattle.promises.specs.Through.{Calls, Runs, through, taken, lefts, done, following, as_one_run, left_as_one_run}

@@ -13,9 +13,10 @@ use Rattle.g722.specs.declared.Decoder.{Decoder}
 use Rattle.facts.specs.Upper.{upper_six}
 use Rattle.conference.specs.Ports.{decoder_from, octet_to, coder_to}
 use Rattle.conference.specs.Tick.{signals_to, desk_after, tick_call}
-use Rattle.conference.specs.Cases.{accepted}
-use Rattle.conference.specs.Own.{TickInput, NoneRefused, sent_to, Eight, after, still_eight, ports_stay, sent_octet}
-use Rattle.conference.specs.Good.{coder_at, decoder_at}
+use Rattle.conference.proofs.Cases.{accepted}
+use Rattle.conference.specs.Own.{TickInput, NoneRefused, sent_to, Eight, after}
+use Rattle.conference.proofs.Own.{still_eight, ports_stay, sent_octet}
+use Rattle.conference.proofs.Good.{coder_at, decoder_at}
 use Rattle.conference.specs.declared.Desk.{Desk}
 use Rattle.promises.specs.Through.{through}
 use Rattle.promises.specs.SameBands.{SameBands}

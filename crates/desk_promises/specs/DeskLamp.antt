@@ -9,7 +9,7 @@ use Rattle.facts.specs.Overload.{overloads_append}
 use Rattle.conference.specs.Sums.{sums_of}
 use Rattle.conference.specs.Ports.{rls_from, rhs_from}
 use Rattle.conference.specs.Tick.{sums_limited, tick_limited}
-use Rattle.conference.specs.Cases.{refused}
+use Rattle.conference.proofs.Cases.{refused}
 use Rattle.conference.specs.Own.{TickInput}
 use Rattle.conference.specs.declared.Desk.{Desk}
 use Rattle.promises.specs.Through.{of_accepted}

@@ -9,7 +9,8 @@ use Rattle.laws.specs.One.{Allows, Lifetimes, claims}
 use Rattle.laws.specs.Outcome.{Does}
 use Rattle.mixer.specs.contracts as mixer
 use Rattle.conference.specs.Tick.{tick_call}
-use Rattle.conference.specs.Own.{TickInput, NoneRefused, sent_to, AllButFor, Eight, own_octets_unheard}
+use Rattle.conference.specs.Own.{TickInput, NoneRefused, sent_to, AllButFor, Eight}
+use Rattle.conference.proofs.Own.{own_octets_unheard}
 use Rattle.conference.specs.declared.Desk.{Desk}
 use Rattle.conference.specs.declared.Ticked.{Ticked}
 use Rattle.promises.specs.Made.{does_prop, Made, MadeFrom, last_of, taken_of, lefts_of, made_as_one_run, made_left_as_one_run}

@@ -15,7 +15,6 @@ pub mod Cue
 pub mod Printed
 pub mod Checks
 pub mod InSteps
-pub mod Steady
 pub mod Opened
 pub mod Case
 pub mod Sums

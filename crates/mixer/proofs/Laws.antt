@@ -20,8 +20,8 @@ use Rattle.conference.specs.Sums.{sum_of, others_of, sums_of, mixed}
 use Rattle.conference.specs.Ports.{rl_from, rh_from, rls_from, rhs_from, octet_to, coder_to, each_port}
 use Rattle.conference.specs.Tick.{all_good}
 use Rattle.port.specs.Step.{heard_of, sent_of}
-use Rattle.conference.specs.Rows.{zip_length, zip_at, pairs_length, pairs_at, each_not_yet, each_one_more}
-use Rattle.conference.specs.Total.{others_total, sums_length, sums_at, mixed_length, mixed_at}
+use Rattle.conference.proofs.Rows.{zip_length, zip_at, pairs_length, pairs_at, each_not_yet, each_one_more}
+use Rattle.conference.proofs.Total.{others_total, sums_length, sums_at, mixed_length, mixed_at}
 use Rattle.port.specs.declared.Signals.{Signals}
 use Rattle.port.specs.declared.Reply.{Reply}
 

@@ -7,7 +7,7 @@ use borrow.Author.Tests.{not-true, not-false}
 use lib.ListN.{length}
 use Rattle.laws.specs.Outcome.{does}
 use Rattle.conference.specs.Tick.{unseated, uneven, any_above, ticked}
-use Rattle.conference.specs.Cases.{seated, even, tick_9, tick_3, tick_1, tick_2, tick_0}
+use Rattle.conference.proofs.Cases.{seated, even, tick_9, tick_3, tick_1, tick_2, tick_0}
 use Rattle.mixer.proofs.tick.Statement.{statement}
 use Rattle.mixer.proofs.tick.Tie as tie
 

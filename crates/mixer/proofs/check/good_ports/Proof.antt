@@ -13,7 +13,7 @@ use Rattle.laws.specs.Order.{by_test}
 use Rattle.g722.specs.declared.Coder.{Coder}
 use Rattle.g722.specs.declared.Decoder.{Decoder}
 use Rattle.conference.specs.Tick.{all_good, good_port, good_ports}
-use Rattle.conference.specs.Rows.{pairs_length, pairs_at}
+use Rattle.conference.proofs.Rows.{pairs_length, pairs_at}
 use Rattle.mixer.proofs.Laws.{good_turn, good_end}
 use Rattle.mixer.proofs.check.good_ports.Statement.{statement}
 use Rattle.mixer.proofs.check.good_ports.Tie as tie

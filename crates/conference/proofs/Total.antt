@@ -9,7 +9,7 @@ use Rattle.std.proofs.Math.ListN.{get_or-map}
 use Rattle.laws.specs.Order.{zarith, add_read, sub_read}
 use Rattle.g722.specs.Arithmetic.{limit}
 use Rattle.conference.specs.Sums.{sum_of, without, ports_from, others_of, sums_of, mixed}
-use Rattle.conference.specs.Rows.{same_at}
+use Rattle.conference.proofs.Rows.{same_at}
 
 -- ---- one port: also where there is no such port, as it has no signal
 

@@ -17,9 +17,10 @@ use Rattle.facts.specs.Good.{low_good, high_good, coder_reset_good, decoder_rese
 use Rattle.facts.specs.Signals.{heard_good}
 use Rattle.conference.specs.Ports.{decoder_from, coder_to}
 use Rattle.conference.specs.Tick.{unseated, all_good, good_port, good_ports, signals_to, desk_after, tick_call, reset_desk}
-use Rattle.conference.specs.Cases.{seated, refused, Accepted, accepted}
-use Rattle.conference.specs.Rows.{pairs_length, pairs_at, each_at}
-use Rattle.conference.specs.Own.{Eight, signals_long, still_eight, ports_stay}
+use Rattle.conference.proofs.Cases.{seated, refused, Accepted, accepted}
+use Rattle.conference.proofs.Rows.{pairs_length, pairs_at, each_at}
+use Rattle.conference.specs.Own.{Eight}
+use Rattle.conference.proofs.Own.{signals_long, still_eight, ports_stay}
 use Rattle.conference.specs.declared.Desk.{Desk}
 
 -- ---- one port

@@ -15,10 +15,11 @@ use Rattle.g722.specs.declared.Decoder.{Decoder}
 use Rattle.conference.specs.Sums.{sum_of, without, ports_from, others_of, sums_of, mixed}
 use Rattle.conference.specs.Ports.{rl_from, rh_from, rls_from, rhs_from, octet_to}
 use Rattle.conference.specs.Tick.{signals_to, octets_to, tick_call}
-use Rattle.conference.specs.Cases.{accepted}
-use Rattle.conference.specs.Rows.{zip_none}
-use Rattle.conference.specs.Total.{sums_add_up}
-use Rattle.conference.specs.Own.{Eight, rls_long, rhs_long}
+use Rattle.conference.proofs.Cases.{accepted}
+use Rattle.conference.proofs.Rows.{zip_none}
+use Rattle.conference.proofs.Total.{sums_add_up}
+use Rattle.conference.specs.Own.{Eight}
+use Rattle.conference.proofs.Own.{rls_long, rhs_long}
 use Rattle.conference.specs.declared.Desk.{Desk}
 
 -- ---- THE THEOREMS of the sums, with N ports
