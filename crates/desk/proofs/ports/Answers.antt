@@ -2,7 +2,7 @@ use Rattle.std.proofs.Common.{◌≡◌, ℕ, false, arith, sym, ap, ◌∙◌}
 use mathlib.Core.Bool.{cond}
 use Rattle.laws.specs.Order.{by_test}
 use Rattle.conference.specs.Tick.{unseated, reset_call}
-use Rattle.conference.specs.Cases.{seated}
+use Rattle.conference.proofs.Cases.{seated}
 use Rattle.desk.proofs.ports.Goals as goal
 
 -- 9 is not 0
