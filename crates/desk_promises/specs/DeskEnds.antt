@@ -18,9 +18,9 @@ use Rattle.conference.specs.Own.{TickInput, NoneRefused, sent_to, Eight, after}
 use Rattle.conference.proofs.Own.{still_eight, ports_stay, sent_octet}
 use Rattle.conference.proofs.Good.{coder_at, decoder_at}
 use Rattle.conference.specs.declared.Desk.{Desk}
-use Rattle.promises.specs.Through.{through}
-use Rattle.promises.specs.SameBands.{SameBands}
-use Rattle.promises.specs.Ends.{heard_at_end}
+use Rattle.promises.proofs.Through.{through}
+use Rattle.promises.proofs.SameBands.{SameBands}
+use Rattle.promises.proofs.Ends.{heard_at_end}
 use Rattle.desk_promises.specs.SameSignals.{same_signals}
 use Rattle.desk_promises.specs.DeskCalls.{ticking}
 

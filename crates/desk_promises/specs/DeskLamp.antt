@@ -12,8 +12,8 @@ use Rattle.conference.specs.Tick.{sums_limited, tick_limited}
 use Rattle.conference.proofs.Cases.{refused}
 use Rattle.conference.specs.Own.{TickInput}
 use Rattle.conference.specs.declared.Desk.{Desk}
-use Rattle.promises.specs.Through.{of_accepted}
-use Rattle.promises.specs.Lamp.{Counts, count_through, counts_add_up}
+use Rattle.promises.proofs.Through.{of_accepted}
+use Rattle.promises.proofs.Lamp.{Counts, count_through, counts_add_up}
 use Rattle.desk_promises.specs.DeskCalls.{ticking, outcome}
 
 pub ticking_counts : Counts ticking

@@ -6,7 +6,7 @@ use Rattle.g722.specs.declared.Coder.{Coder}
 use Rattle.g722.specs.declared.Decoder.{Decoder}
 use Rattle.facts.specs.Upper.{upper_six}
 use Rattle.conference.specs.Ports.{octet_to, coder_to}
-use Rattle.promises.specs.SameBands.{SameBands, same_words}
+use Rattle.promises.proofs.SameBands.{SameBands, same_words}
 
 -- THE THEOREM: one octet, by the two sub-band coders
 pub same_signals : (c : Coder) (s : ℤ × ℤ) (d : Decoder) (o : ℕ) → SameBands c d → upper_six (octet_to c s) ≡ upper_six o

@@ -2,8 +2,8 @@
 -- Assumes nothing.
 use Rattle.std.specs.Prelude.{◌≡◌, refl, List, [], map, ℕ}
 use Rattle.host.specs.Calls.{code_bytes, decode_bytes, put_bytes}
-use Rattle.promises.specs.Made.{MadeFrom}
-use Rattle.promises.specs.Allowed.{allowed, Makes, all_made, lent, lent_out}
+use Rattle.promises.proofs.Made.{MadeFrom}
+use Rattle.promises.proofs.Allowed.{allowed, Makes, all_made, lent, lent_out}
 use Rattle.host_promises.specs.Streams.{EncodeInput, StoreInput}
 use Rattle.host_promises.specs.HostCalls.{returned}
 use Rattle.host_promises.specs.HostCarried.{HostParcel}

@@ -3,8 +3,8 @@
 -- Assumes nothing.
 use Rattle.std.specs.Prelude.{◌≡◌, refl, List, ℕ}
 use Rattle.state.specs.Reset.{reset_bytes}
-use Rattle.promises.specs.Turns.{Turn}
-use Rattle.promises.specs.AllowedTurns.{Turning, all_turns}
+use Rattle.promises.proofs.Turns.{Turn}
+use Rattle.promises.proofs.AllowedTurns.{Turning, all_turns}
 use Rattle.host_promises.specs.Streams.{EncodeInput, StoreInput}
 use Rattle.host_promises.specs.RunningHost.{host_codes, host_decodes}
 use Rattle.host_promises.specs.AllowedHost.{makes_host_code, makes_host_decode}

@@ -20,7 +20,7 @@ use Rattle.state.specs.Round.{Holds, coder_back, coder_bytes_back, coder_in_fits
 use Rattle.state.specs.Reset.{reset_bytes, coder_reset_bytes, decoder_reset_bytes}
 use Rattle.host.specs.Answer.{number_in}
 use Rattle.host.specs.Calls.{after_coding, code_bytes, after_decoding, decode_bytes}
-use Rattle.promises.specs.Through.{Calls, through, taken, lefts}
+use Rattle.promises.proofs.Through.{Calls, through, taken, lefts}
 use Rattle.host_promises.specs.ChunksRefused.{encode_chunk_beside, decode_chunk_beside}
 use Rattle.host_promises.specs.Streams.{EncodeInput, encoding, encoding_runs, StoreInput, storing, storing_runs}
 use Rattle.host_promises.specs.Fitting.{encode_stays_fitting, store_stays_fitting}

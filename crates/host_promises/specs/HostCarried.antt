@@ -12,10 +12,10 @@ use Rattle.facts.specs.Upper.{upper_six}
 use Rattle.state.specs.Layout.{coder_bytes, decoder_bytes}
 use Rattle.state.specs.Reset.{reset_bytes}
 use Rattle.host.specs.Calls.{after_data, put_bytes}
-use Rattle.promises.specs.Through.{through, answers}
-use Rattle.promises.specs.Ends.{AsSent}
-use Rattle.promises.specs.Carried.{heard_kept}
-use Rattle.promises.specs.Alike.{Each, none, more}
+use Rattle.promises.proofs.Through.{through, answers}
+use Rattle.promises.proofs.Ends.{AsSent}
+use Rattle.promises.proofs.Carried.{heard_kept}
+use Rattle.promises.proofs.Alike.{Each, none, more}
 use Rattle.host_promises.specs.Streams.{EncodeInput, StoreInput}
 use Rattle.host_promises.specs.HostCalls.{host_sent, host_spoken, host_decoding, host_heard}
 use Rattle.host_promises.specs.HostEnds.{bands, host_ends_equal}

@@ -12,10 +12,10 @@ use Rattle.facts.specs.Upper.{upper_six}
 use Rattle.state.specs.Layout.{coder_bytes, decoder_bytes}
 use Rattle.state.specs.Bands.{band_bytes, coder_bands, decoder_bands}
 use Rattle.state.specs.Reset.{reset_bytes}
-use Rattle.promises.specs.Through.{through}
-use Rattle.promises.specs.StepRuns.{received}
-use Rattle.promises.specs.SameBands.{SameBands}
-use Rattle.promises.specs.Ends.{AsSent, same_after, same_behind, same_at_end, reset_same}
+use Rattle.promises.proofs.Through.{through}
+use Rattle.promises.proofs.StepRuns.{received}
+use Rattle.promises.proofs.SameBands.{SameBands}
+use Rattle.promises.proofs.Ends.{AsSent, same_after, same_behind, same_at_end, reset_same}
 use Rattle.host_promises.specs.Streams.{EncodeInput, StoreInput}
 use Rattle.host_promises.specs.HostCalls.{host_coding, host_sent, host_spoken, host_octets_from_reset, host_coder_from_reset}
 use Rattle.host_promises.specs.HostCalls.{host_decoding, host_came, host_decoder_from_reset}

@@ -7,10 +7,10 @@ use Rattle.facts.specs.Told.{Told, decoder_run}
 use Rattle.facts.specs.Upper.{upper_six}
 use Rattle.state.specs.Layout.{coder_bytes, decoder_bytes}
 use Rattle.state.specs.Reset.{reset_bytes}
-use Rattle.promises.specs.StepRuns.{received}
-use Rattle.promises.specs.Ends.{AsSent}
-use Rattle.promises.specs.Turns.{Turn, reset, since}
-use Rattle.promises.specs.Resets.{record_after, taken_since, left_since, taken_since_lem, left_since_lem, record_forgets}
+use Rattle.promises.proofs.StepRuns.{received}
+use Rattle.promises.proofs.Ends.{AsSent}
+use Rattle.promises.proofs.Turns.{Turn, reset, since}
+use Rattle.promises.proofs.Resets.{record_after, taken_since, left_since, taken_since_lem, left_since_lem, record_forgets}
 use Rattle.host_promises.specs.Streams.{EncodeInput, StoreInput}
 use Rattle.host_promises.specs.HostCalls.{host_coding, host_decoding}
 use Rattle.host_promises.specs.HostEnds.{bands, host_ends_equal, host_state_behind, host_states_equal}

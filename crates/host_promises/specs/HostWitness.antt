@@ -12,8 +12,8 @@ use Rattle.state.specs.Layout.{band_of, coder_of, decoder_of, holds, coder_in, d
 use Rattle.state.specs.Reset.{reset_bytes}
 use Rattle.host.specs.Answer.{packed, number_in}
 use Rattle.host.specs.Calls.{after_coding, code_bytes, after_decoding, decode_bytes}
-use Rattle.promises.specs.Through.{through, answers, of_accepted}
-use Rattle.promises.specs.StepRuns.{received}
+use Rattle.promises.proofs.Through.{through, answers, of_accepted}
+use Rattle.promises.proofs.StepRuns.{received}
 use Rattle.host_promises.specs.Streams.{EncodeInput, StoreInput}
 use Rattle.host_promises.specs.HostCalls.{Returned, host_coding, host_sent, host_decoding, host_came}
 use Rattle.host_promises.specs.HostEnds.{bands, host_states_equal}

@@ -19,11 +19,11 @@ use Rattle.state.specs.Layout.{coder_bytes, coder_in, decoder_bytes, decoder_in}
 use Rattle.state.specs.Round.{Holds}
 use Rattle.state.specs.Reset.{reset_bytes}
 use Rattle.host.specs.Calls.{code_bytes, decode_bytes}
-use Rattle.promises.specs.Made.{does_prop, Made, MadeFrom, last_of, taken_of, lefts_of}
-use Rattle.promises.specs.Made.{made_record, made_answers, made_taken, made_left}
-use Rattle.promises.specs.StepRuns.{received}
-use Rattle.promises.specs.Ends.{AsSent}
-use Rattle.promises.specs.Alike.{Each}
+use Rattle.promises.proofs.Made.{does_prop, Made, MadeFrom, last_of, taken_of, lefts_of}
+use Rattle.promises.proofs.Made.{made_record, made_answers, made_taken, made_left}
+use Rattle.promises.proofs.StepRuns.{received}
+use Rattle.promises.proofs.Ends.{AsSent}
+use Rattle.promises.proofs.Alike.{Each}
 use Rattle.host_promises.specs.HostCalls.{Returned, returned, host_coding, host_octets_as_one_run, host_coder_as_one_run}
 use Rattle.host_promises.specs.HostCalls.{host_decoding, host_samples_as_one_run, host_decoder_as_one_run}
 use Rattle.host_promises.specs.HostEnds.{bands, host_ends_equal, host_state_behind, host_states_equal}

@@ -14,8 +14,8 @@ use Rattle.facts.specs.Told.{decoder_run}
 use Rattle.facts.specs.Upper.{upper_six}
 use Rattle.state.specs.Layout.{coder_bytes, decoder_bytes}
 use Rattle.state.specs.Reset.{reset_bytes}
-use Rattle.promises.specs.Ends.{AsSent}
-use Rattle.promises.specs.Made.{MadeFrom, last_of}
+use Rattle.promises.proofs.Ends.{AsSent}
+use Rattle.promises.proofs.Made.{MadeFrom, last_of}
 use Rattle.host_promises.specs.Streams.{StoreInput}
 use Rattle.host_promises.specs.HostEnds.{bands}
 use Rattle.host_promises.specs.HostCarried.{HostParcel, host_laden, host_with_data, host_without_data, host_six_kept, host_alike}

@@ -8,12 +8,12 @@ use Rattle.facts.specs.Told.{decoder_run}
 use Rattle.facts.specs.Upper.{upper_six}
 use Rattle.state.specs.Layout.{coder_bytes, decoder_bytes}
 use Rattle.state.specs.Reset.{reset_bytes}
-use Rattle.promises.specs.StepRuns.{received}
-use Rattle.promises.specs.Ends.{AsSent}
-use Rattle.promises.specs.Through.{Calls}
-use Rattle.promises.specs.Made.{Made, MadeFrom, last_of}
-use Rattle.promises.specs.Turns.{Turn, reset, since}
-use Rattle.promises.specs.MadeTurns.{MadeTurns, FromReset, made_since}
+use Rattle.promises.proofs.StepRuns.{received}
+use Rattle.promises.proofs.Ends.{AsSent}
+use Rattle.promises.proofs.Through.{Calls}
+use Rattle.promises.proofs.Made.{Made, MadeFrom, last_of}
+use Rattle.promises.proofs.Turns.{Turn, reset, since}
+use Rattle.promises.proofs.MadeTurns.{MadeTurns, FromReset, made_since}
 use Rattle.host_promises.specs.HostEnds.{bands}
 use Rattle.host_promises.specs.RunningHost.{HostCode, HostDecode, host_codes, host_decodes, sent_by, spoken_to, came_to}
 use Rattle.host_promises.specs.RunningHost.{running_host_ends_equal, running_host_behind, running_host_states_equal}
