@@ -10,7 +10,8 @@ use Rattle.conference.specs.Own.{TickInput}
 use Rattle.conference.proofs.Good.{GoodDesk, desk_stays_good}
 use Rattle.conference.specs.declared.Desk.{Desk}
 use Rattle.conference.specs.declared.Ticked.{Ticked}
-use Rattle.promises.proofs.Through.{Calls, Runs, through, taken, lefts, done, following, as_one_run, left_as_one_run}
+use Rattle.promises.proofs.Through.{Calls, Runs, through, taken, lefts, done, following}
+use Rattle.promises.proofs.ThroughLaws.{as_one_run, left_as_one_run}
 
 -- ticks that are all done
 unfoldable pub desk_run : Desk → List TickInput → Desk

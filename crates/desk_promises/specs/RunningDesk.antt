@@ -13,7 +13,8 @@ use Rattle.conference.specs.Own.{TickInput, NoneRefused, sent_to, AllButFor, Eig
 use Rattle.conference.proofs.Own.{own_octets_unheard}
 use Rattle.conference.specs.declared.Desk.{Desk}
 use Rattle.conference.specs.declared.Ticked.{Ticked}
-use Rattle.promises.proofs.Made.{does_prop, Made, MadeFrom, last_of, taken_of, lefts_of, made_as_one_run, made_left_as_one_run}
+use Rattle.promises.proofs.Made.{does_prop, Made, MadeFrom, last_of, taken_of, lefts_of}
+use Rattle.promises.proofs.MadeLaws.{made_as_one_run, made_left_as_one_run}
 use Rattle.promises.proofs.Allowed.{allowed, all_made, lent, lent_out}
 use Rattle.desk_promises.specs.DeskCalls.{ticking, desk_run, octets_run, ticking_runs}
 

@@ -8,7 +8,8 @@ use Rattle.g722.specs.Decoding.{decoded}
 use Rattle.g722.specs.declared.Coder.{Coder}
 use Rattle.g722.specs.declared.Decoder.{Decoder}
 use Rattle.pcm.specs.Chunks.{encode_chunk, not_stored, as_bytes, decode_chunk}
-use Rattle.promises.proofs.Refused.{Beside, unchanged, accepted, code_beside}
+use Rattle.promises.proofs.Refused.{Beside}
+use Rattle.promises.proofs.RefusedLaws.{unchanged, accepted, code_beside}
 
 -- THE THEOREMS: the record and what was lent, of each chunk
 

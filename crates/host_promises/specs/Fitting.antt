@@ -15,7 +15,7 @@ use Rattle.g722.specs.declared.Decoder.{Decoder}
 use Rattle.big_endian.specs.Bytes.{pcm_samples}
 use Rattle.pcm.specs.Chunks.{encode_chunk, not_stored, as_bytes, decode_chunk}
 use Rattle.promises.proofs.Accepted.{coded_clean, coded_run_lem, decoded_run}
-use Rattle.promises.proofs.Refused.{code_beside, decode_beside}
+use Rattle.promises.proofs.RefusedLaws.{code_beside, decode_beside}
 
 -- THE THEOREMS: of the calls on a record ..
 

@@ -14,7 +14,7 @@ use Rattle.state.specs.Reset.{reset_bytes}
 use Rattle.host.specs.Calls.{after_data, put_bytes}
 use Rattle.promises.proofs.Through.{through, answers}
 use Rattle.promises.proofs.Ends.{AsSent}
-use Rattle.promises.proofs.Carried.{heard_kept}
+use Rattle.promises.proofs.CarriedLaws.{heard_kept}
 use Rattle.promises.proofs.Alike.{Each, none, more}
 use Rattle.host_promises.specs.Streams.{EncodeInput, StoreInput}
 use Rattle.host_promises.specs.HostCalls.{host_sent, host_spoken, host_decoding, host_heard}

@@ -14,7 +14,8 @@ use Rattle.state.specs.Layout.{holds, coder_in, decoder_in}
 use Rattle.state.specs.Reset.{unheld_coder_broken, unheld_decoder_broken}
 use Rattle.host.specs.Answer.{packed, number_in, index_in, limited_in}
 use Rattle.host.specs.Calls.{state_after, after_coding, code_bytes, after_decoding, decode_bytes, after_data, put_bytes, take_bytes}
-use Rattle.promises.proofs.Refused.{Beside, put_beside, take_beside}
+use Rattle.promises.proofs.Refused.{Beside}
+use Rattle.promises.proofs.RefusedLaws.{put_beside, take_beside}
 use Rattle.host_promises.specs.ChunksRefused.{encode_chunk_beside, decode_chunk_beside}
 use Rattle.host_promises.specs.Packed.{Parts, code_parts, decode_parts, put_parts, take_parts}
 

@@ -17,7 +17,8 @@ use Rattle.state.specs.Layout.{decoder_bytes, decoder_in}
 use Rattle.host.specs.Answer.{packed, number_in}
 use Rattle.host.specs.Calls.{state_after, after_decoding}
 use Rattle.host_steps.specs.Calls.{hear_bytes}
-use Rattle.promises.proofs.Unheard.{Alike, counted_same, heard_same}
+use Rattle.promises.proofs.Unheard.{Alike}
+use Rattle.promises.proofs.UnheardCall.{counted_same, heard_same}
 use Rattle.host_promises.specs.HostStepsRefused.{hear_parts}
 
 module _ (told : ℕ) (os rs x y u v : List ℕ)

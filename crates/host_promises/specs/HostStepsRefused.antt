@@ -20,7 +20,8 @@ use Rattle.state.specs.Layout.{decoder_in}
 use Rattle.host.specs.Answer.{number_in, index_in, limited_in}
 use Rattle.host.specs.Calls.{after_decoding}
 use Rattle.host_steps.specs.Calls.{hear_bytes, join_bytes}
-use Rattle.promises.proofs.Refused.{Beside, unchanged, indexed, accepted}
+use Rattle.promises.proofs.Refused.{Beside}
+use Rattle.promises.proofs.RefusedLaws.{unchanged, indexed, accepted}
 use Rattle.host_promises.specs.Packed.{Parts, parts}
 use Rattle.host_promises.specs.HostRefused.{in_word, stayed}
 

@@ -21,7 +21,8 @@ use Rattle.state.specs.Layout.{decoder_bytes, decoder_in}
 use Rattle.host.specs.Answer.{number_in, packed}
 use Rattle.host.specs.Calls.{after_decoding, decode_bytes, state_after}
 use Rattle.promises.proofs.Through.{through, answers}
-use Rattle.promises.proofs.Unheard.{Alike, full_same, run_same}
+use Rattle.promises.proofs.Unheard.{Alike}
+use Rattle.promises.proofs.UnheardCall.{full_same, run_same}
 use Rattle.promises.proofs.Alike.{Each, answers_alike, state_alike, lefts_alike}
 use Rattle.host_promises.specs.Streams.{StoreInput}
 use Rattle.host_promises.specs.Packed.{decode_parts}

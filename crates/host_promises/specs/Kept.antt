@@ -8,7 +8,7 @@ use Rattle.std.proofs.Math.Bool.{cond}
 use mathlib.Core.List.{List, [], ◌∷◌, ◌++◌, map}
 use Rattle.laws.specs.Outcome.{Outcome}
 use Rattle.promises.proofs.Through.{Calls, Runs, following, through, answers, of_accepted, accepted, taken, lefts}
-use Rattle.promises.proofs.Through.{as_one_run, left_as_one_run}
+use Rattle.promises.proofs.ThroughLaws.{as_one_run, left_as_one_run}
 
 -- the host's calls beside those of C: what it keeps of a record, and what it reads there; which records it can keep
 pub record Keeps (C : Calls) : Type 1 where

@@ -20,7 +20,7 @@ use Rattle.state.specs.Round.{Holds}
 use Rattle.state.specs.Reset.{reset_bytes}
 use Rattle.host.specs.Calls.{code_bytes, decode_bytes}
 use Rattle.promises.proofs.Made.{does_prop, Made, MadeFrom, last_of, taken_of, lefts_of}
-use Rattle.promises.proofs.Made.{made_record, made_answers, made_taken, made_left}
+use Rattle.promises.proofs.MadeLaws.{made_record, made_answers, made_taken, made_left}
 use Rattle.promises.proofs.StepRuns.{received}
 use Rattle.promises.proofs.Ends.{AsSent}
 use Rattle.promises.proofs.Alike.{Each}

@@ -18,7 +18,8 @@ use Rattle.g722.specs.declared.Coded.{Coded}
 use Rattle.g722.specs.declared.Decoder.{Decoder}
 use Rattle.g722.specs.declared.Decoded.{Decoded}
 use Rattle.facts.specs.Told.{Told, decoder_run, full_run, samples_run, marked, decoder_run_lem, samples_run_lem, decoder_join, samples_join}
-use Rattle.promises.proofs.Through.{Calls, Runs, done, through, taken, lefts, as_one_run, left_as_one_run}
+use Rattle.promises.proofs.Through.{Calls, Runs, done, through, taken, lefts}
+use Rattle.promises.proofs.ThroughLaws.{as_one_run, left_as_one_run}
 use Rattle.promises.proofs.Sequences.{CodeInput, coding, coding_runs}
 use Rattle.host_promises.specs.ChunksRefused.{encode_chunk_beside, decode_chunk_beside}
 

@@ -7,7 +7,7 @@ use Rattle.promises.proofs.HearCalls.{hears}
 use Rattle.promises.proofs.JoinCalls.{joining}
 use Rattle.promises.proofs.StepGiven.{StepInput, hear, join}
 use Rattle.promises.proofs.Made.{MadeFrom}
-use Rattle.promises.proofs.RunningSteps.{Stepping, heard, joined, Steps, step_input, steppings}
+use Rattle.promises.proofs.RunningStepsLaws.{Stepping, heard, joined, Steps, step_input, steppings}
 use Rattle.promises.proofs.Allowed.{allowed, all_made, lent, lent_out}
 
 step : Decoder → StepInput → Stepping

@@ -6,36 +6,22 @@
 -- Assumes nothing.
 use Rattle.std.specs.Prelude.{◌≡◌, refl, ℕ, zero, suc, ◌+◌, ◌*◌, ℤ, length, take}
 use Rattle.std.proofs.Common.{sym, ap, ◌∙◌, arith, take_all}
-use mathlib.Core.List.{List, [], ◌∷◌, map, head-eq_of_cons-eq, tail-eq_of_cons-eq, nil≢cons, cons≢nil}
-use Rattle.std.proofs.Math.Seq.{take-nil, take-length}
+use mathlib.Core.List.{List, [], ◌∷◌, map}
+use Rattle.std.proofs.Math.Seq.{take-length}
 use Rattle.g722.specs.Records.{reset_coder, reset_decoder}
-use Rattle.g722.specs.Coding.{octets_of, coder_step, coder_after}
-use Rattle.g722.specs.Steps.{band_after, heard_after, joined_after}
+use Rattle.g722.specs.Coding.{octets_of, coder_after}
+use Rattle.g722.specs.Steps.{heard_after, joined_after}
 use Rattle.facts.specs.Upper.{upper_six}
 use Rattle.g722.specs.declared.Coder.{Coder}
 use Rattle.g722.specs.declared.Decoder.{Decoder}
 use Rattle.facts.specs.Told.{Told, decoder_run}
-use Rattle.promises.proofs.SameBands.{SameBands, same_samples}
+use Rattle.promises.proofs.SameBands.{SameBands}
 use Rattle.promises.proofs.StepRuns.{received, decoder_run_in_steps}
 use Rattle.promises.proofs.Sequences.{CodeInput, coder_through, octets_through, samples_taken, coder_as_one_run, octets_as_one_run}
 use Rattle.promises.proofs.Sequences.{DecodeInput, decoder_through, octets_taken, decoder_as_one_run}
+use Rattle.promises.proofs.SameHeard.{same_heard}
 
 -- ---- a run at each end, from equal bands
-
--- THE THEOREM, of the first step: after n octets, where the first n came as they were sent as far as their upper six bits go
-pub same_heard : (n : ℕ) (c : Coder) (d : Decoder) (s : List ℤ) (os : List ℕ) → SameBands c d
-    → take n (map upper_six (octets_of c s)) ≡ take n (map upper_six os)
-    → SameBands (coder_after c (take (2 * n) s)) (heard_after d (take n os))
-unfolding octets_of coder_after heard_after band_after
-same_heard zero c d s os b e = b
-same_heard (suc n) c d [] [] b e = rw (take-nil (2 * suc n)) b
-same_heard (suc n) c d [] (o ∷ os) b e = absurd (nil≢cons e)
-same_heard (suc n) c d (x ∷ []) [] b e = let k : 2 * suc n ≡ suc (suc (2 * n)) = omega arith in rw k b
-same_heard (suc n) c d (x ∷ []) (o ∷ os) b e = absurd (nil≢cons e)
-same_heard (suc n) c d (x ∷ y ∷ s) [] b e = absurd (cons≢nil e)
-same_heard (suc n) c d (x ∷ y ∷ s) (o ∷ os) b e =
-    let k : 2 * suc n ≡ suc (suc (2 * n)) = omega arith in
-    rw k (same_heard n (coder_step c x y) (heard_after d (o ∷ [])) s os (same_samples c d x y o b (head-eq_of_cons-eq e)) (tail-eq_of_cons-eq e))
 
 -- after all that came, as long as it came as it was sent
 pub heard_behind : (c : Coder) (d : Decoder) (s : List ℤ) (os : List ℕ) → SameBands c d

@@ -16,7 +16,7 @@ use Rattle.g722.specs.Steps.{heard, hear_call, joined, join_call}
 use Rattle.g722.specs.declared.Coder.{Coder}
 use Rattle.g722.specs.declared.Decoder.{Decoder}
 use Rattle.promises.proofs.Accepted.{coded_clean, coded_run_lem, decoded_run, heard_run_lem, joined_paired, joined_clean, joined_run_lem}
-use Rattle.promises.proofs.Refused.{code_beside, decode_beside, hear_beside, join_beside}
+use Rattle.promises.proofs.RefusedLaws.{code_beside, decode_beside, hear_beside, join_beside}
 use Rattle.promises.proofs.Through.{Calls, following, through}
 use Rattle.promises.proofs.Sequences.{CodeInput, coding, coder_through, DecodeInput, decoding, decoder_through}
 use Rattle.promises.proofs.HearCalls.{HearInput, hearing, hear_through}

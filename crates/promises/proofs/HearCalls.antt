@@ -15,8 +15,9 @@ use Rattle.g722.specs.declared.Decoded.{Decoded}
 use Rattle.facts.specs.Signals.{signals_length, rhs_length}
 use Rattle.facts.specs.Told.{Told, marked}
 use Rattle.promises.proofs.Accepted.{heard_run_lem}
-use Rattle.promises.proofs.Refused.{hear_beside}
-use Rattle.promises.proofs.Through.{Calls, Runs, through, of_accepted, taken, as_one_run, of_as_one_run}
+use Rattle.promises.proofs.RefusedLaws.{hear_beside}
+use Rattle.promises.proofs.Through.{Calls, Runs, through, of_accepted, taken}
+use Rattle.promises.proofs.ThroughLaws.{as_one_run, of_as_one_run}
 use Rattle.promises.proofs.StepRuns.{received, lows_run, rls_run, received_marked, rls_marked, low_run, high_run}
 use Rattle.promises.proofs.StepRuns.{heard_cut, low_cut, high_cut}
 use Rattle.promises.proofs.StepRuns.{Heard, paired, paired_cut}

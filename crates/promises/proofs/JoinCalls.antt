@@ -8,8 +8,9 @@ use Rattle.g722.specs.Steps.{joined_in_full, joined_of, pairs_after, joined_afte
 use Rattle.g722.specs.declared.Decoder.{Decoder}
 use Rattle.g722.specs.declared.Decoded.{Decoded}
 use Rattle.promises.proofs.Accepted.{joined_paired, joined_run_lem}
-use Rattle.promises.proofs.Refused.{join_beside}
-use Rattle.promises.proofs.Through.{Calls, Runs, through, lefts, taken, as_one_run, left_as_one_run}
+use Rattle.promises.proofs.RefusedLaws.{join_beside}
+use Rattle.promises.proofs.Through.{Calls, Runs, through, lefts, taken}
+use Rattle.promises.proofs.ThroughLaws.{as_one_run, left_as_one_run}
 use Rattle.promises.proofs.StepRuns.{Heard, paired, lows, highs, lows_paired, highs_paired, pairs_cut, joined_cut}
 
 -- what a call is handed beside the record

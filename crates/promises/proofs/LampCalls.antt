@@ -15,8 +15,8 @@ use Rattle.facts.specs.Overload.{places_out, overloads_are, overloads_append}
 use Rattle.facts.specs.CodedRuns as coded-runs
 use Rattle.facts.specs.Told.{full_run, marked, full_run_lem, full_join}
 use Rattle.promises.proofs.Accepted.{coded_run_lem, decoded_run, heard_run_lem}
-use Rattle.promises.proofs.Refused.{code_beside, decode_beside, hear_beside, join_beside}
-use Rattle.promises.proofs.Through.{of_as_one_run}
+use Rattle.promises.proofs.RefusedLaws.{code_beside, decode_beside, hear_beside, join_beside}
+use Rattle.promises.proofs.ThroughLaws.{of_as_one_run}
 use Rattle.promises.proofs.StepRuns.{received, received_marked, lows_run, yls_run, yls_marked, yls_cut, yhs_cut, lows, highs, full_cut}
 use Rattle.promises.proofs.Sequences.{CodeInput, coding, coding_runs, samples_taken, whole}
 use Rattle.promises.proofs.Sequences.{DecodeInput, decoding, decoding_runs, octets_taken}

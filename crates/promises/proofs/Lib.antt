@@ -2,10 +2,14 @@
 -- a call, accepted or refused
 pub mod Accepted
 pub mod Refused
+pub mod RefusedLaws
 pub mod Index
+pub mod IndexLaws
 pub mod Steps
+pub mod StepLeaves
 -- sequences of calls
 pub mod Through
+pub mod ThroughLaws
 pub mod Lamp
 pub mod StepRuns
 pub mod Sequences
@@ -18,26 +22,37 @@ pub mod Good
 pub mod LampCalls
 -- the two ends
 pub mod SameBands
+pub mod SameHeard
 pub mod Ends
 pub mod StepEnds
 pub mod Turns
+pub mod TurnsLaws
 pub mod Resets
 pub mod ResetStreams
 pub mod ResetWitness
 pub mod Alike
 pub mod Unheard
+pub mod UnheardCall
+pub mod UnheardLaws
 pub mod UnheardSignals
+pub mod UnheardSignalsLaws
 pub mod UnheardSteps
 pub mod Carried
+pub mod CarriedLaws
 pub mod Witness
+pub mod WitnessLaws
 -- the running code
 pub mod Made
+pub mod MadeLaws
 pub mod Running
+pub mod RunningUnheard
 pub mod RunningSteps
+pub mod RunningStepsLaws
 pub mod RunningStepEnds
 pub mod MadeTurns
 pub mod RunningResets
 pub mod RunningData
+pub mod RunningDataLaws
 pub mod Allowed
 pub mod AllowedSteps
 pub mod AllowedTurns

@@ -15,7 +15,8 @@ use Rattle.facts.specs.Upper.{upper_six}
 use Rattle.promises.proofs.StepRuns.{received}
 use Rattle.promises.proofs.SameBands.{SameBands}
 use Rattle.promises.proofs.Ends.{take_map, AsSent, same_after, reset_same}
-use Rattle.promises.proofs.Turns.{Turn, reset, more, on_turn, since, since_map, turned, turned_since, given, given_in_turn, given_since}
+use Rattle.promises.proofs.Turns.{Turn, reset, more, on_turn, since, turned, given, given_in_turn}
+use Rattle.promises.proofs.TurnsLaws.{since_map, turned_since, given_since}
 
 -- two samples, which one octet is sent for
 pub record Pair : Type 0 where

@@ -17,7 +17,8 @@ use Rattle.promises.proofs.Sequences.{CodeInput, coding, DecodeInput, decoding}
 use Rattle.promises.proofs.StepRuns.{received}
 use Rattle.promises.proofs.SameBands.{SameBands}
 use Rattle.promises.proofs.Ends.{AsSent, ends_equal, record_behind, records_equal}
-use Rattle.promises.proofs.Turns.{Turn, reset, since, turned, turned_since, past_forgotten, given, given_in_turn, given_since}
+use Rattle.promises.proofs.Turns.{Turn, reset, since, turned, given, given_in_turn}
+use Rattle.promises.proofs.TurnsLaws.{turned_since, past_forgotten, given_since}
 
 -- ---- the calls and resets of an end
 

@@ -3,7 +3,6 @@
 -- (`Allows`), and none is written out here.
 -- Assumes nothing.
 use Rattle.std.specs.Prelude.{◌≡◌, List, map, ℕ, ◌*◌, ℤ, length, take}
-use Rattle.std.proofs.Common.{sym, ◌∙◌}
 use base.Stored.{Coded-set, coded_ℕ, coded_ℤ, coded_list}
 use Rattle.std.specs.Borrow.{Bor, MutBor}
 use denote.Signature.{type_at}
@@ -24,9 +23,8 @@ use Rattle.promises.proofs.Sequences.{coding, coding_runs, decoding, decoding_ru
 use Rattle.promises.proofs.StepRuns.{received}
 use Rattle.promises.proofs.SameBands.{SameBands}
 use Rattle.promises.proofs.Ends.{AsSent, same_after, same_behind, same_at_end, reset_same}
-use Rattle.promises.proofs.Unheard.{AlikeCalls, answers_unheard, samples_unheard, record_unheard}
-use Rattle.promises.proofs.Made.{does_prop, Made, MadeFrom, last_of, taken_of, lefts_of, made_record, made_answers, made_left}
-use Rattle.promises.proofs.Made.{made_as_one_run, made_left_as_one_run}
+use Rattle.promises.proofs.Made.{does_prop, Made, MadeFrom, last_of, taken_of, lefts_of}
+use Rattle.promises.proofs.MadeLaws.{made_as_one_run, made_left_as_one_run}
 
 -- ---- what the contracts allow
 
@@ -135,34 +133,24 @@ module _ (d : Decoder) (ks : List Decoding) (m : MadeFrom decodings d ks) where
 
 -- ---- THE THEOREMS of demand 3
 
+same_reset : {c : Coder} {d : Decoder} → Reset_coder c → Reset_decoder d → SameBands c d
+same_reset {c} {d} p q = rw (did_reset_coder c p, did_reset_decoder d q) reset_same
+
 module _ (c : Coder) (d : Decoder) (p : Reset_coder c) (q : Reset_decoder d)
     (ks : List Coding) (ds : List Decoding) (m : MadeFrom codings c ks) (w : MadeFrom decodings d ds) where
-  same_reset : SameBands c d
-  same_reset = rw (did_reset_coder c p, did_reset_decoder d q) reset_same
-
   -- after the n-th octet, for every n up to which they came as they were sent, inside a call too
   pub running_ends_equal : (n : ℕ) → AsSent n (sent ks) (came ds)
       → SameBands (coder_after c (take (2 * n) (spoken ks))) (decoder_run d (take n (came ds)))
-  running_ends_equal n e = same_after n c d (spoken ks) (came ds) same_reset (rw (running_octets c ks m) at e)
+  running_ends_equal n e = same_after n c d (spoken ks) (came ds) (same_reset {c = c} {d = d} p q) (rw (running_octets c ks m) at e)
 
   -- the record that the decoder answered, while it is behind what was sent
   pub running_behind : AsSent (length (came ds)) (sent ks) (came ds)
       → SameBands (coder_after c (take (2 * length (came ds)) (spoken ks))) (last_of decodings d ds)
   running_behind e =
-      rw (running_decoder d ds w) (same_behind c d (spoken ks) (came ds) same_reset (rw (running_octets c ks m) at e))
+      rw (running_decoder d ds w) (same_behind c d (spoken ks) (came ds) (same_reset {c = c} {d = d} p q) (rw (running_octets c ks m) at e))
 
   -- the records that both answered, where all that was sent has come
   pub running_records_equal : map upper_six (sent ks) ≡ map upper_six (received (came ds))
       → SameBands (last_of codings c ks) (last_of decodings d ds)
   running_records_equal e =
-      rw (running_coder c ks m, running_decoder d ds w) (same_at_end c d (spoken ks) (came ds) same_reset (rw (running_octets c ks m) at e))
-
--- from equal records, calls that differ in cue bits alone: the same answers, the same samples, the same record
-pub running_unheard : (d : Decoder) (ks js : List Decoding) → MadeFrom decodings d ks → MadeFrom decodings d js
-    → AlikeCalls (map decodings.input ks) (map decodings.input js)
-    → (map decodings.answer ks ≡ map decodings.answer js) × (heard ks ≡ heard js) × (last_of decodings d ks ≡ last_of decodings d js)
-running_unheard d ks js m w a = (
-  made_answers decodings d ks m ∙ answers_unheard d a ∙ sym (made_answers decodings d js w),
-  made_left decodings d ks m ∙ samples_unheard d a ∙ sym (made_left decodings d js w),
-  made_record decodings d ks m ∙ record_unheard d a ∙ sym (made_record decodings d js w),
-)
+      rw (running_coder c ks m, running_decoder d ds w) (same_at_end c d (spoken ks) (came ds) (same_reset {c = c} {d = d} p q) (rw (running_octets c ks m) at e))

@@ -10,7 +10,8 @@ use Rattle.facts.specs.Told.{full_run}
 use Rattle.promises.proofs.Through.{Calls}
 use Rattle.promises.proofs.Lamp.{Counts, total, count_through}
 use Rattle.promises.proofs.LampCalls.{coding_counts, coded_count, decoding_counts, decoded_count}
-use Rattle.promises.proofs.Made.{Made, MadeFrom, made_answers, made_taken}
+use Rattle.promises.proofs.Made.{Made, MadeFrom}
+use Rattle.promises.proofs.MadeLaws.{made_answers, made_taken}
 use Rattle.promises.proofs.Running.{Coding, Decoding, codings, decodings, spoken, came}
 
 -- what calls counted that were made: the sum over their answers

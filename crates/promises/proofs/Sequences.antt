@@ -18,8 +18,9 @@ use Rattle.facts.specs.CodedRuns.{Pairs, pairs, coder_join, octets_join}
 use Rattle.facts.specs.Range.{run_in_range}
 use Rattle.facts.specs.Told.{Told, decoder_run, full_run, samples_run, marked, decoder_run_lem, samples_run_lem, decoder_join, samples_join}
 use Rattle.promises.proofs.Accepted.{coded_fits, coded_run_lem, decoded_run}
-use Rattle.promises.proofs.Refused.{code_beside, decode_beside}
-use Rattle.promises.proofs.Through.{Calls, Runs, through, lefts, taken, as_one_run, left_as_one_run}
+use Rattle.promises.proofs.RefusedLaws.{code_beside, decode_beside}
+use Rattle.promises.proofs.Through.{Calls, Runs, through, lefts, taken}
+use Rattle.promises.proofs.ThroughLaws.{as_one_run, left_as_one_run}
 
 -- ---- coding
 

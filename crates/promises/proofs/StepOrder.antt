@@ -9,7 +9,7 @@ use Rattle.g722.specs.declared.Decoder.{Decoder}
 use Rattle.g722.specs.declared.Decoded.{Decoded}
 use Rattle.facts.specs.Told.{Told, decoder_run, samples_run}
 use Rattle.promises.proofs.Through.{Calls, Runs, done, following, through, of_accepted, lefts, taken}
-use Rattle.promises.proofs.Through.{as_one_run, left_as_one_run, of_as_one_run}
+use Rattle.promises.proofs.ThroughLaws.{as_one_run, left_as_one_run, of_as_one_run}
 use Rattle.promises.proofs.StepRuns.{received, lows_run, rls_run, low_run, high_run, heard_cut, low_cut, high_cut}
 use Rattle.promises.proofs.StepRuns.{Heard, lows, highs, pairs_cut, joined_cut, decodes}
 use Rattle.promises.proofs.HearCalls.{hears, hearing, hearing_runs, heard_low, heard_high}

@@ -1,7 +1,7 @@
 -- Decoding in two steps: a decoding call that is not refused is the first step and then the second one, over what the first gave. The first
 -- moves both bands and leaves the past pairs, the second moves the past pairs and leaves both bands.
 -- Assumes nothing.
-use Rattle.std.specs.Prelude.{◌≡◌, true, false, List, ℕ, ◌*◌, ltb, eqb, ℤ}
+use Rattle.std.specs.Prelude.{◌≡◌, false, List, ℕ, ◌*◌, ltb, eqb, ℤ}
 use Rattle.std.proofs.Math.Path.{refl, sym, ap}
 use Rattle.std.proofs.Common.{◌∙◌}
 use borrow.Author.Tests.{eqb-true, eqb-false, eq-eqb}
@@ -20,17 +20,9 @@ use Rattle.facts.specs.Signals.{rls_length, rhs_length, rls_in_range, rhs_in_ran
 use Rattle.g722.specs.Arithmetic.{overloads}
 use Rattle.facts.specs.Steps.{full_in_steps, samples_in_steps, record_in_steps}
 use Rattle.promises.proofs.Accepted.{decoded_fits, decoded_from_good, decoded_run, heard_run_lem, joined_run_lem}
-use Rattle.promises.proofs.Refused.{hear_beside, join_beside}
+use Rattle.promises.proofs.RefusedLaws.{join_beside}
 
 -- ---- what each step leaves, refused or not
-
-pub hear_leaves_pairs : (d : Decoder) (told : ℕ) (o : List ℕ) (low high : List ℤ)
-    → (hear_call d told o low high).answer.next.past ≡ d.past
-unfolding heard heard_after
-hear_leaves_pairs d told o low high =
-    by_test (eqb (hear_call d told o low high).answer.number 0)
-    (λ e. ap (λ x. x.answer.next.past) (heard_run_lem d told o low high (eqb-true _ _ e)))
-    (λ e. ap (λ p. p.0.past) ((hear_beside d told o low high).kept (eqb-false _ _ e)))
 
 pub join_leaves_bands : (d : Decoder) (low high s : List ℤ) → let next = (join_call d low high s).answer.next in
     (next.low ≡ d.low) × (next.high ≡ d.high)
@@ -41,28 +33,6 @@ join_leaves_bands d low high s =
     (ap (λ x. x.answer.next.low) r, ap (λ x. x.answer.next.high) r))
     (λ e. let r = (join_beside d low high s).kept (eqb-false _ _ e) in
     (ap (λ p. p.0.low) r, ap (λ p. p.0.high) r))
-
--- ---- the first step's signals are what the second asks for
-
-joins_heard : (mode : ℕ) (d : Decoder) (o : List ℕ) (s : List ℤ) → misfit (length s) (length o) ≡ false → good_decoder d ≡ true
-    → join_call (heard_after d o) (rls_of mode d.low o) (rhs_of d.high o) s ≡ decoded mode d o
-unfolding join_call joined decoded heard_after
-joins_heard mode d o s f g =
-    let low = rls_of mode d.low o in
-    let high = rhs_of d.high o in
-    let l = rls_length mode d.low o in
-    let e : length high ≡ length low = rhs_length d.high o ∙ sym l in
-    let fits : misfit (length s) (length low) ≡ false = rw l f in
-    rw (fits, eq-eqb _ _ e, heard_good d o g, no_bad_pair low high e (rls_in_range mode d.low o) (rhs_in_range d.high o))
-    (λ i. record {
-      answer = record {
-        number = 0;
-        index = 0;
-        limited = overloads (sym (full_in_steps mode d o) i);
-        next = sym (record_in_steps mode d o) i;
-      };
-      left = sym (samples_in_steps mode d o) i;
-    })
 
 -- ---- a decoding call, and the two steps that are made in its place
 
@@ -87,8 +57,28 @@ module _ (d : Decoder) (told : ℕ) (o : List ℕ) (s low high : List ℤ) (l : 
 
     -- THE THEOREM: samples, number, index and record of a decoding call that is not refused are those of the two steps
     pub in_two_steps_lem : decode_call d told o s ≡ two_steps d told o low high s
-    unfolding heard
+    unfolding heard join_call joined decoded heard_after
     in_two_steps_lem =
+        let mode = in_force told in
+        let f = decoded_fits d told o s h in
+        let g = decoded_from_good d told o s h in
+        let xl = rls_of mode d.low o in
+        let xh = rhs_of d.high o in
+        let k = rls_length mode d.low o in
+        let e : length xh ≡ length xl = rhs_length d.high o ∙ sym k in
+        let fits : misfit (length s) (length xl) ≡ false = rw k f in
+        -- the first step's signals are what the second asks for
+        let joins : join_call (heard_after d o) (rls_of mode d.low o) (rhs_of d.high o) s ≡ decoded mode d o =
+        rw (fits, eq-eqb _ _ e, heard_good d o g, no_bad_pair xl xh e (rls_in_range mode d.low o) (rhs_in_range d.high o))
+        (λ i. record {
+          answer = record {
+            number = 0;
+            index = 0;
+            limited = overloads (sym (full_in_steps mode d o) i);
+            next = sym (record_in_steps mode d o) i;
+          };
+          left = sym (samples_in_steps mode d o) i;
+        }) in
         decoded_run d told o s h
-        ∙ sym (joins_heard (in_force told) d o s (decoded_fits d told o s h) (decoded_from_good d told o s h))
+        ∙ sym joins
         ∙ ap (λ x. join_call x.answer.next x.left.0 x.left.1 s) (sym (heard_run_lem d told o low high first_accepted))

@@ -13,7 +13,8 @@ use Rattle.promises.proofs.HearCalls.{HearInput}
 use Rattle.promises.proofs.StepGiven.{StepInput, hear, join}
 use Rattle.promises.proofs.StepOrder.{stepping, step_answer, low_left, high_left, samples_left}
 use Rattle.promises.proofs.Alike.{Each, answers_alike, state_alike, of_alike, lefts_alike}
-use Rattle.promises.proofs.UnheardSignals.{AlikeHear, same_call}
+use Rattle.promises.proofs.UnheardSignals.{AlikeHear}
+use Rattle.promises.proofs.UnheardSignalsLaws.{same_call}
 
 -- two calls of one step: octets that are heard alike, or the same signals, and as much memory lent
 pub data AlikeStep : StepInput → StepInput → Type 0 where
