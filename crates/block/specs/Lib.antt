@@ -3,8 +3,3 @@ pub mod Check
 pub mod Layout
 pub mod Calls
 pub mod Formed
-pub mod Numbers
-pub mod Xor
-pub mod Steps
-pub mod Round
-pub mod Changed

@@ -17,7 +17,7 @@ use Rattle.g722.specs.declared.Decoder.{Decoder}
 use Rattle.big_endian.specs.Bytes.{pcm_samples}
 use Rattle.pcm.specs.Chunks.{encode_chunk, not_stored, as_bytes, decode_chunk}
 use Rattle.state.specs.Layout.{holds, coder_in, decoder_in, write_call}
-use Rattle.state.specs.Reset.{unheld_coder_broken, unheld_decoder_broken, held_length}
+use Rattle.state.proofs.Reset.{unheld_coder_broken, unheld_decoder_broken, held_length}
 use Rattle.host.specs.Answer.{packed}
 use Rattle.host.specs.Calls.{state_after}
 

@@ -16,8 +16,9 @@ use Rattle.facts.specs.Told.{Told, decoder_run, samples_run}
 use Rattle.big_endian.specs.Bytes.{pcm_bytes}
 use Rattle.pcm.specs.Chunks.{encode_chunk, decode_chunk}
 use Rattle.state.specs.Layout.{coder_bytes, coder_in, decoder_bytes, decoder_in}
-use Rattle.state.specs.Round.{Holds, coder_back, coder_bytes_back, coder_in_fits, decoder_back, decoder_bytes_back, decoder_in_fits}
-use Rattle.state.specs.Reset.{reset_bytes, coder_reset_bytes, decoder_reset_bytes}
+use Rattle.state.proofs.Round.{Holds, coder_back, coder_bytes_back, coder_in_fits, decoder_back, decoder_bytes_back, decoder_in_fits}
+use Rattle.state.specs.Reset.{reset_bytes}
+use Rattle.state.proofs.Reset.{coder_reset_bytes, decoder_reset_bytes}
 use Rattle.host.specs.Answer.{number_in}
 use Rattle.host.specs.Calls.{after_coding, code_bytes, after_decoding, decode_bytes}
 use Rattle.promises.proofs.Through.{Calls, through, taken, lefts}

@@ -10,7 +10,7 @@ use Rattle.facts.specs.Fits.{DecoderFits, decoder_told_fits, decoder_reset_fits}
 use Rattle.facts.specs.Told.{Told, decoder_run}
 use Rattle.facts.specs.Upper.{upper_six}
 use Rattle.state.specs.Layout.{coder_bytes, decoder_bytes}
-use Rattle.state.specs.Bands.{band_bytes, coder_bands, decoder_bands}
+use Rattle.state.proofs.Bands.{band_bytes, coder_bands, decoder_bands}
 use Rattle.state.specs.Reset.{reset_bytes}
 use Rattle.promises.proofs.Through.{through}
 use Rattle.promises.proofs.StepRuns.{received}

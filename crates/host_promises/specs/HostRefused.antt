@@ -11,7 +11,7 @@ use Rattle.g722.specs.Coding.{misfit, not_coded, code_call}
 use Rattle.big_endian.specs.Bytes.{pcm_samples, samples_length}
 use Rattle.pcm.specs.Chunks.{encode_chunk, not_stored, decode_chunk}
 use Rattle.state.specs.Layout.{holds, coder_in, decoder_in}
-use Rattle.state.specs.Reset.{unheld_coder_broken, unheld_decoder_broken}
+use Rattle.state.proofs.Reset.{unheld_coder_broken, unheld_decoder_broken}
 use Rattle.host.specs.Answer.{packed, number_in, index_in, limited_in}
 use Rattle.host.specs.Calls.{state_after, after_coding, code_bytes, after_decoding, decode_bytes, after_data, put_bytes, take_bytes}
 use Rattle.promises.proofs.Refused.{Beside}

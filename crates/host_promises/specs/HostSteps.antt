@@ -27,9 +27,9 @@ use Rattle.pcm.specs.Chunks.{not_stored, as_bytes, decode_chunk}
 use Rattle.pcm.specs.Signals.{unpaired_bytes, not_heard_bytes, both_as_bytes, hear_chunk}
 use Rattle.pcm.specs.Signals.{unjoined_bytes, bad_pair, join_signals, join_chunk}
 use Rattle.state.specs.Layout.{band_values, decoder_values, decoder_bytes, decoder_in}
-use Rattle.state.specs.Values.{spelled, spelled_same}
-use Rattle.state.specs.Bands.{decoder_bands}
-use Rattle.state.specs.Round.{Holds, decoder_back, decoder_bytes_back, decoder_in_fits}
+use Rattle.state.proofs.Values.{spelled, spelled_same}
+use Rattle.state.proofs.Bands.{decoder_bands}
+use Rattle.state.proofs.Round.{Holds, decoder_back, decoder_bytes_back, decoder_in_fits}
 use Rattle.host.specs.Answer.{number_in}
 use Rattle.host.specs.Calls.{after_decoding, decode_bytes}
 use Rattle.host_steps.specs.Calls.{hear_bytes, join_bytes}

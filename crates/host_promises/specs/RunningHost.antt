@@ -16,7 +16,7 @@ use Rattle.facts.specs.Told.{Told, decoder_run, samples_run}
 use Rattle.facts.specs.Upper.{upper_six}
 use Rattle.big_endian.specs.Bytes.{pcm_bytes}
 use Rattle.state.specs.Layout.{coder_bytes, coder_in, decoder_bytes, decoder_in}
-use Rattle.state.specs.Round.{Holds}
+use Rattle.state.proofs.Round.{Holds}
 use Rattle.state.specs.Reset.{reset_bytes}
 use Rattle.host.specs.Calls.{code_bytes, decode_bytes}
 use Rattle.promises.proofs.Made.{does_prop, Made, MadeFrom, last_of, taken_of, lefts_of}

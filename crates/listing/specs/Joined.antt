@@ -10,10 +10,10 @@ use Rattle.g722.specs.declared.Decoder.{Decoder}
 use Rattle.block.specs.Calls.{read_call}
 use Rattle.lines.specs.Lines.{block_line}
 use Rattle.playing.specs.Play.{start_player, begins, afresh, decoder_for, reported}
-use Rattle.playing.specs.Played.{play_unread}
+use Rattle.playing.proofs.PlayCalls.{play_unread}
 use Rattle.playing.specs.Run.{Playing, onward, after}
-use Rattle.playing.specs.Enough.{AllRead, Ready, stays_ready, ready_after, fresh_ready}
-use Rattle.playing.specs.Said.{said, is_said, next_said}
+use Rattle.playing.proofs.Enough.{AllRead, Ready, stays_ready, ready_after, fresh_ready}
+use Rattle.playing.proofs.Said.{said, is_said, next_said}
 use Rattle.playing.specs.declared.Player.{Player}
 use Rattle.playing.specs.declared.Played.{Played}
 use Rattle.listing.specs.Listed.{listed}

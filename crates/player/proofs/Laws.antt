@@ -25,7 +25,7 @@ use Rattle.block.specs.Calls.{read_call}
 use Rattle.block.specs.Formed.{Allowed}
 use Rattle.block.specs.declared.BlockRead.{BlockRead}
 use Rattle.playing.specs.Play.{decoder_for, reported, played_from, play_call}
-use Rattle.playing.specs.Played.{Bounds, read_bounds, start_good, play_called}
+use Rattle.playing.proofs.PlayCalls.{Bounds, read_bounds, start_good, play_called}
 use Rattle.playing.specs.declared.Played.{Played}
 use Rattle.playing.specs.declared.Player.{Player}
 

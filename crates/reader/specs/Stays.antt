@@ -7,7 +7,7 @@ use Rattle.std.proofs.Math.Path.{ap}
 use borrow.Author.Tests.{eq-eqb, ne_eqb, leb-true, leb-false, le-leb, lt-leb, ltb-true, ltb-false, lt-ltb, le-ltb}
 use Rattle.laws.specs.Order.{by_test}
 use Rattle.block.specs.Calls.{refused, read_call}
-use Rattle.block.specs.Numbers.{read_6, read_most}
+use Rattle.block.proofs.Numbers.{read_6, read_most}
 use Rattle.block.specs.declared.BlockRead.{BlockRead}
 use Rattle.reader.specs.declared.Step.{Step}
 use Rattle.reader.specs.Walk.{ended, stood, step_at, next_at}

@@ -5,7 +5,7 @@ use native.Mathlib.Omega.{arith}
 use lib.Bits.{bit_xor, xor_lt}
 use borrow.Author.Rules.{rules}
 use Rattle.block.specs.Check.{byte_step}
-use Rattle.block.specs.Steps.{at_once}
+use Rattle.block.proofs.Steps.{at_once}
 use Rattle.block.proofs.byte_step.Statement.{statement}
 use Rattle.block.proofs.byte_step.Tie as tie
 

@@ -2,9 +2,8 @@
 use mathlib.Core.Path.{◌≡◌, ◌∙◌}
 use mathlib.Core.List.{◌++◌}
 use native.Mathlib.Omega.{arith}
-use lib.ListN.{length, take, drop, length-set}
+use lib.ListN.{length, take, drop}
 use lib.Seq.{take_at}
-use borrow.Author.Rules.{rules}
 use Rattle.block.specs.Layout.{body, block_of}
 use Rattle.laws.specs.Parts.{last_two}
 use Rattle.block.proofs.put.Goals as goal

@@ -9,8 +9,8 @@ use Rattle.laws.specs.Order.{no}
 use Rattle.block.specs.Check.{check}
 use Rattle.big_endian.specs.Numbers.{two_at}
 use Rattle.block.specs.Calls.{well_formed}
-use Rattle.block.specs.Formed.{formed_bytes, formed_within}
-use Rattle.block.specs.Numbers.{read_6, read_7, read_8, read_done}
+use Rattle.block.proofs.Formed.{formed_bytes, formed_within}
+use Rattle.block.proofs.Numbers.{read_6, read_7, read_8, read_done}
 use Rattle.block.proofs.read.Statement.{statement}
 use Rattle.block.proofs.read.Tie as tie
 

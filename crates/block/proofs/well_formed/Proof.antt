@@ -7,7 +7,7 @@ use lib.ListN.{get_or}
 use borrow.Author.Rules.{rules}
 use borrow.Author.Tests.{eq-eqb, ne_eqb, not-true, not-false}
 use Rattle.block.specs.Calls.{allowed, well_formed}
-use Rattle.block.specs.Formed.{allowed_bounds}
+use Rattle.block.proofs.Formed.{allowed_bounds}
 use Rattle.block.proofs.well_formed.Statement.{statement}
 use Rattle.block.proofs.well_formed.Tie as tie
 

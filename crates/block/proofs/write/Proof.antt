@@ -8,8 +8,9 @@ use borrow.Author.Tests.{eqb-true, eqb-false, not-true, not-false}
 use Rattle.laws.specs.Order.{no}
 use Rattle.laws.specs.Outcome.{does}
 use Rattle.block.specs.Calls.{allowed}
-use Rattle.block.specs.Formed.{Allowed, allowed_bounds, allowed_within}
-use Rattle.block.specs.Numbers.{write_6, write_8, write_done}
+use Rattle.block.specs.Formed.{Allowed}
+use Rattle.block.proofs.Formed.{allowed_bounds, allowed_within}
+use Rattle.block.proofs.Numbers.{write_6, write_8, write_done}
 use Rattle.block.proofs.write.Statement.{statement}
 use Rattle.block.proofs.write.Tie as tie
 

@@ -5,7 +5,7 @@ use Rattle.std.specs.Int.Signed.{mag}
 use Rattle.laws.specs.Back.{back16}
 use Rattle.laws.specs.Outcome.{does}
 use Rattle.g722.specs.Records.{good_decoder}
-use Rattle.playing.specs.Played.{play_unread, play_narrow, play_broken}
+use Rattle.playing.proofs.PlayCalls.{play_unread, play_narrow, play_broken}
 use Rattle.player.proofs.Laws.{bounds, ready, played, as_reported}
 use Rattle.player.proofs.play.Goals as goal
 

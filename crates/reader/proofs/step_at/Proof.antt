@@ -4,7 +4,7 @@ use Prim.Native.Nat.{ℕ, ◌+◌, ◌-◌, ◌*◌}
 use native.Mathlib.Omega.{arith}
 use lib.ListN.{take, drop, length-take, length-drop}
 use Rattle.block.specs.Calls.{read_call}
-use Rattle.block.specs.Numbers.{read_6}
+use Rattle.block.proofs.Numbers.{read_6}
 use Rattle.block.specs.declared.BlockRead.{BlockRead}
 use Rattle.reader.specs.Walk.{stood}
 use Rattle.reader.specs.Stays.{step_end, step_short, step_whole}

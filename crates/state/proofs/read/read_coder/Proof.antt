@@ -6,7 +6,7 @@ use lib.IntN.{pos}
 use lib.ListN.{length, replicate}
 use borrow.Author.Tests.{not-true, not-false}
 use Rattle.state.specs.Layout.{holds}
-use Rattle.state.specs.Reset.{held_length}
+use Rattle.state.proofs.Reset.{held_length}
 use Rattle.state.proofs.Laws.{values_behind, coder_read, no_coder_lem}
 use borrow.Author.Rules.{rules}
 use Rattle.state.proofs.read.read_coder.Statement.{statement}

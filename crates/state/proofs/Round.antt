@@ -14,8 +14,8 @@ use Rattle.facts.specs.Fits.{Fit, AllFit, Row, CoderFits, DecoderFits, fit_at}
 use Rattle.big_endian.specs.Bytes.{sample_of, pcm_samples, pcm_bytes, samples_of_bytes, bytes_of_samples, samples_length, bytes_length}
 use Rattle.state.specs.Layout.{coder_values, decoder_values, coder_bytes, decoder_bytes, coder_of, decoder_of}
 use Rattle.state.specs.Layout.{holds, no_coder, no_decoder, coder_in, decoder_in}
-use Rattle.state.specs.Values.{coder_values_row, coder_of_values, coder_values_of, coder_of_fits}
-use Rattle.state.specs.Values.{decoder_values_row, decoder_of_values, decoder_values_of, decoder_of_fits}
+use Rattle.state.proofs.Values.{coder_values_row, coder_of_values, coder_values_of, coder_of_fits}
+use Rattle.state.proofs.Values.{decoder_values_row, decoder_of_values, decoder_values_of, decoder_of_fits}
 
 -- the bytes of a state that holds a record of this kind, good or broken
 pub record Holds (kind : ℕ) (state : List ℕ) : Type 0 where

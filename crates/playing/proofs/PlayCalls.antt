@@ -11,7 +11,7 @@ use Rattle.g722.specs.Decoding.{samples_in_full, samples_of, decoder_after, deco
 use Rattle.facts.specs.Good.{decoder_reset_good}
 use Rattle.block.specs.Calls.{read_call}
 use Rattle.block.specs.Formed.{Allowed}
-use Rattle.block.specs.Numbers.{read_sound, read_done}
+use Rattle.block.proofs.Numbers.{read_sound, read_done}
 use Rattle.block.specs.declared.BlockRead.{BlockRead}
 use Rattle.playing.specs.declared.Player.{Player}
 use Rattle.playing.specs.Play.{afresh, decoder_for, not_played, octets_in, reported, played_from, play_call}

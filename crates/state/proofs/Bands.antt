@@ -8,7 +8,7 @@ use Rattle.g722.specs.declared.Decoder.{Decoder}
 use Rattle.facts.specs.Fits.{BandFits}
 use Rattle.big_endian.specs.Bytes.{pcm_bytes}
 use Rattle.state.specs.Layout.{band_values, coder_values, decoder_values, coder_bytes, decoder_bytes}
-use Rattle.state.specs.Values.{spelled, spelled_same}
+use Rattle.state.proofs.Values.{spelled, spelled_same}
 
 unfoldable pub band_bytes : Band → Band → List ℕ
 band_bytes low high = pcm_bytes (band_values low ++ band_values high)

@@ -7,7 +7,7 @@ use Rattle.std.proofs.lemmas.Nat.{xor_lt, xor_comm, xor_shr, xor_mod}
 use Rattle.std.proofs.lemmas.Bool.{eqb-false}
 use Rattle.laws.specs.Order.{by_test}
 use Rattle.laws.specs.Every.{below_at}
-use Rattle.block.specs.Xor.{xor_assoc, xor_twice, xor_odd, xor_double}
+use Rattle.block.proofs.Xor.{xor_assoc, xor_twice, xor_odd, xor_double}
 use Rattle.block.specs.Check.{bit_step, bit_steps, byte_step, check_from, check}
 
 -- ---- a number that meets the lower bits moves up with them

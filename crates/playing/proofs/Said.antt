@@ -10,9 +10,9 @@ use Rattle.g722.specs.declared.Decoder.{Decoder}
 use Rattle.facts.specs.Told.{samples_length}
 use Rattle.block.specs.Calls.{read_call}
 use Rattle.playing.specs.Play.{decoder_for, octets_in, reported}
-use Rattle.playing.specs.Played.{octets_length, read_bounds, play_done}
+use Rattle.playing.proofs.PlayCalls.{octets_length, read_bounds, play_done}
 use Rattle.playing.specs.Run.{Playing, played, onward}
-use Rattle.playing.specs.Enough.{Ready, fits}
+use Rattle.playing.proofs.Enough.{Ready, fits}
 use Rattle.playing.specs.declared.Played.{Played}
 
 -- the samples of a block, from a record

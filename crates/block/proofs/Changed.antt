@@ -10,15 +10,15 @@ use Rattle.std.proofs.Math.Seq.{length-take-le, take-set-lt, get_or-take, get_or
 use Rattle.std.proofs.lemmas.List.{take-set-le}
 use Rattle.std.proofs.lemmas.Bool.{eqb-false}
 use Rattle.laws.specs.Order.{by_test}
-use Rattle.block.specs.Xor.{xor_twice}
+use Rattle.block.proofs.Xor.{xor_twice}
 use Rattle.block.specs.Check.{byte_step, check_from, check}
 use Rattle.big_endian.specs.Numbers.{two_bytes, four_bytes, two_at}
 use Rattle.block.specs.Layout.{body, block_of}
 use Rattle.block.specs.Calls.{allowed, refused, read_call}
-use Rattle.block.specs.Formed.{allowed_bounds}
-use Rattle.block.specs.Numbers.{read_7}
-use Rattle.block.specs.Steps.{steps_same, byte_below}
-use Rattle.block.specs.Round.{block_length, check_right}
+use Rattle.block.proofs.Formed.{allowed_bounds}
+use Rattle.block.proofs.Numbers.{read_7}
+use Rattle.block.proofs.Steps.{steps_same, byte_below}
+use Rattle.block.proofs.Round.{block_length, check_right}
 
 -- ---- bytes
 

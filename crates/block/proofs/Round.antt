@@ -11,8 +11,8 @@ use Rattle.block.specs.Check.{check}
 use Rattle.big_endian.specs.Numbers.{two_bytes, two_at, four_at, two_back, four_back}
 use Rattle.block.specs.Layout.{body, block_of}
 use Rattle.block.specs.Calls.{allowed, all_zero, well_formed, read_call}
-use Rattle.block.specs.Formed.{allowed_bounds}
-use Rattle.block.specs.Steps.{check_below}
+use Rattle.block.proofs.Formed.{allowed_bounds}
+use Rattle.block.proofs.Steps.{check_below}
 
 zeros : (k : ℕ) → all_zero (replicate k 0) ≡ true
 unfolding all_zero

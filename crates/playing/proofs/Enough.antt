@@ -12,11 +12,12 @@ use Rattle.g722.specs.Decoding.{samples_of}
 use Rattle.block.specs.Calls.{read_call}
 use Rattle.playing.specs.declared.Played.{Played}
 use Rattle.playing.specs.Play.{start_player, afresh, decoder_for, octets_in}
-use Rattle.playing.specs.Played.{octets_length, read_bounds, start_good, play_done}
+use Rattle.playing.proofs.PlayCalls.{octets_length, read_bounds, start_good, play_done}
 use Rattle.facts.specs.Told.{decoder_run, samples_run, samples_length}
 use Rattle.facts.specs.Good.{decoder_run_good, decoder_reset_good}
 use Rattle.playing.specs.Run.{Playing, fresh, played, onward, AllPlayed, heard, after, all_told}
-use Rattle.playing.specs.Takes.{takes, heard_alone, all_alone, left_by, samples_by_takes, record_by_takes, GoOn, one_take}
+use Rattle.playing.specs.Takes.{takes, heard_alone, left_by, GoOn}
+use Rattle.playing.proofs.Takes.{all_alone, samples_by_takes, record_by_takes, one_take}
 
 -- every piece reads well
 unfoldable pub AllRead : List (List ℕ) → Type 0

@@ -8,7 +8,8 @@ use Rattle.block.specs.Check.{check}
 use Rattle.big_endian.specs.Numbers.{two_at, four_at}
 use Rattle.block.specs.Layout.{block_of}
 use Rattle.block.specs.Calls.{allowed, not_written, write_call, well_formed, refused, read_call}
-use Rattle.block.specs.Formed.{Allowed, allowed_bounds, allowed_within, Formed, formed_bytes, formed_within}
+use Rattle.block.specs.Formed.{Allowed, Formed}
+use Rattle.block.proofs.Formed.{allowed_bounds, allowed_within, formed_bytes, formed_within}
 
 -- ---- writing take number t, block number n, mode m, octets o
 
