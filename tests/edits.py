@@ -33,7 +33,10 @@ def owners(text, at):
     ends = [m.start() for m in starts[1:]] + [len(text)]
     items = [(m[1], m[2], m.start(), end) for m, end in zip(starts, ends)]
     kind, name = next(((k, n) for k, n, start, end in items if start <= at < end), ("", ""))
-    naming = [n for k, n, start, end in items if k == "fn" and re.search(rf"\b{name}\b", text[start:end])]
+    # an import line may bring several names
+    brought = re.findall(r"\w+", text[at:text.find(";", at)].partition("{")[2]) if kind == "use" else []
+    named = "|".join(brought or [name])
+    naming = [n for k, n, start, end in items if k == "fn" and re.search(rf"\b(?:{named})\b", text[start:end])]
     return {"fn": [name], "const": naming}.get(kind, []), naming if kind == "use" else []
 
 

@@ -25,10 +25,16 @@ use Rattle.conference.specs.declared.Desk.{Desk}
 
 -- ---- one port
 
+-- the past samples stay
+past_good : (c : Coder) (s : ℤ × ℤ) → all_in_range c.past ≡ true → all_in_range (coder_to c s).past ≡ true
+unfolding coder_to
+past_good c s e = e
+
 coder_stays_good : (c : Coder) (s : ℤ × ℤ) → good_coder c ≡ true → good_coder (coder_to c s) ≡ true
 unfolding good_coder coder_to
 coder_stays_good c s g =
-    both (both (low_good c.low _) (high_good c.high _)) (right_true (good_low c.low && good_high c.high) (all_in_range c.past) g)
+    both (both (low_good c.low _) (high_good c.high _))
+    (past_good c s (right_true (good_low c.low && good_high c.high) (all_in_range c.past) g))
 
 decoder_stays_good : (d : Decoder) (o : ℕ) → good_decoder d ≡ true → good_decoder (decoder_from d o) ≡ true
 unfolding decoder_from

@@ -7,7 +7,7 @@ use borrow.Author.Tests.{eq-eqb, ne_eqb, ltb-true, ltb-false}
 use Rattle.laws.specs.Order.{by_test}
 use Rattle.lines.specs.Lines.{block_line, refused_line}
 use Rattle.listing.specs.Listed.{listed}
-use Rattle.reader.specs.Stays.{piece_at}
+use Rattle.reader.proofs.Stays.{piece_at}
 use Rattle.playing.specs.Run.{Playing, played, onward}
 use Rattle.listing.specs.Listing.{cut, pieces, start, lines_from, listing}
 

@@ -1,3 +1,2 @@
 -- The walk of a recording, and what follows of it.
 pub mod Walk
-pub mod Stays

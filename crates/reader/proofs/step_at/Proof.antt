@@ -7,7 +7,7 @@ use Rattle.block.specs.Calls.{read_call}
 use Rattle.block.proofs.Numbers.{read_6}
 use Rattle.block.specs.declared.BlockRead.{BlockRead}
 use Rattle.reader.specs.Walk.{stood}
-use Rattle.reader.specs.Stays.{step_end, step_short, step_whole}
+use Rattle.reader.proofs.Stays.{step_end, step_short, step_whole}
 use borrow.Author.Rules.{rules}
 use Rattle.reader.proofs.step_at.Statement.{statement}
 use Rattle.reader.proofs.step_at.Tie as tie
