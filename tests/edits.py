@@ -106,8 +106,8 @@ def crowded(errors):
             yield owner
 
 
-# Not what a proof says where something else that it stands on was refused.
-OWN = r"(?!.*(?:was not admitted|was rejected))"
+# Not what a proof says where it no longer fits the text, or where something else that it stands on was refused.
+OWN = r"(?!.*(?:was not admitted|was rejected|is not in scope|has no field|has no `[^`]*`))"
 
 
 def told_by(log, texts):
@@ -149,17 +149,17 @@ def refused(log, texts, owner, others):
 def fits(log, texts, owner):
     """A function's proof files with the names that its steps have now: rattle names a step after its condition, so a changed condition
     takes names away that the proof cites."""
-    near = r"(?:has no `([^`]+)` that can be named from here \(did you mean `([^`]+)`|has no field `([^`]+)` \(nearest: \.([\w'-]+))"
-    moved = {}
-    for said in re.findall(rf"/proofs/{owner}/[^/\n]*\.antt:\d+:\d+: error: .*{near}", log):
-        old, new = said[:2] if said[0] else said[2:]
+    said = "\n".join(re.findall(rf"/proofs/{owner}/[^/\n]*\.antt:\d+:\d+: error: (.*)", log))
+    moved = dict(re.findall(r"has no `([^`]+)` that can be named from here \(did you mean `([^`]+)`", said))
+    for old, new in re.findall(r"has no field `([^`]+)` \(nearest: \.([\w'-]+)", said):
         moved[old] = new
         # what a step is named after is in the names of the goals behind it too
         if old.startswith("if-") and new.startswith("if-"):
             moved[old.removeprefix("if")] = new.removeprefix("if")
-    names = re.compile("|".join(rf"(?<![\w'-]){re.escape(n)}(?![\w'-])" if n[0] != "-" else rf"{re.escape(n)}(?![\w'])" for n in moved) or "(?!)")
-    files = [file for file in texts if re.fullmatch(rf"proofs/{owner}/[^/]*\.antt", file)]
-    brought = {file: names.sub(lambda found: moved[found[0]], texts[file]) for file in files}
+    for name in re.findall(r"has no field `([^`]+)`\. A record further out has one", said):
+        moved[f".before.{name}"] = f".{name}"
+    names = re.compile("|".join((r"(?<![\w'-])" if old[0].isalpha() else "") + re.escape(old) + r"(?![\w'-])" for old in moved) or "(?!)")
+    brought = {file: names.sub(lambda found: moved[found[0]], text) for file, text in texts.items() if f"/{owner}/" in file}
     return {file: text for file, text in brought.items() if text != texts[file]}
 
 
