@@ -7,7 +7,6 @@ ghost use Rattle.listing.specs.Listed.{listed};
 
 use lines::Line;
 use playing::{Played, Player};
-use std::alloc::Global;
 use std::env::{Env, FillError};
 use std::io;
 use std::io::{Print, Read, Stderr, Stdin, Stdout};
@@ -78,39 +77,50 @@ fn list(
     }
 }
 
-// Reads a block, or what is left where that is less. Nothing waits for more than the block.
-fn piece(input: &mut Stdin, alloc: Global) -> io::Result<Vec<u8>> {
-    let mut bytes = Vec::new(alloc);
-    input.by_ref().take(512).read_to_end(&mut bytes)?;
-    Ok(bytes)
+// Reads until the bytes are full, the input ends or a read fails, and answers how many there are.
+fn read_full(input: &mut Stdin, bytes: &mut [u8]) -> usize
+    ensures { result ≤ length bytes.new }
+{
+    let mut n = 0;
+    while n < bytes.len() {
+        match input.read(&mut bytes[n..]) {
+            Ok(more) if 0 < more => n += more,
+            _ => break,
+        }
+    }
+    n
 }
 
-// Reads a block and lists it.
+// Reads a block and lists it. After a short one it asks once more, since a read that fails is not the end.
 fn turn(
     input: &mut Stdin,
     out: &Stdout,
     err: &Stderr,
-    alloc: Global,
     p: Player,
     before: u64,
     samples: &mut [i16],
 ) -> Onward {
-    match piece(input, alloc) {
-        Ok(block) if block.len() == 0 => last(p),
-        Ok(block) => list(out, err, p, before, &block, samples),
-        Err(error) => {
+    let mut block = [0u8; 512];
+    let mut byte = [0u8; 1];
+    let n = read_full(input, &mut block);
+    if n < 512 {
+        if let Err(error) = input.read(&mut byte) {
             refusal::fail(err, b"read", error);
-            last(p)
+            return last(p);
         }
     }
+    if n == 0 {
+        return last(p);
+    }
+    list(out, err, p, before, &block[..n], samples)
 }
 
 // Block after block. A proved loop has to end, and nothing says that the input does: no recording has so many blocks.
-fn run(input: &mut Stdin, out: &Stdout, err: &Stderr, alloc: Global) {
+fn run(input: &mut Stdin, out: &Stdout, err: &Stderr) {
     let mut samples = [0i16; 960];
     let mut p = player::start();
     for before in 0..u64::MAX {
-        let t = turn(input, out, err, alloc, p, before, &mut samples);
+        let t = turn(input, out, err, p, before, &mut samples);
         if !t.more {
             return;
         }
@@ -128,5 +138,5 @@ fn main(rt: HostRuntime) {
         let _ = eprintln!(rt; "usage: listing < recording");
         return;
     }
-    run(&mut rt.stdin(), &rt.stdout(), &rt.stderr(), rt.alloc());
+    run(&mut rt.stdin(), &rt.stdout(), &rt.stderr());
 }

@@ -8,7 +8,7 @@ use lines::Line;
 use playing::Player;
 use reader::{Reader, Step};
 use std::io;
-use std::io::{Eprint, Print, Read};
+use std::io::{Eprint, Print, Read, Stdin};
 
 // What the reader says at first.
 fn first(src: &[u8]) -> Step
@@ -110,8 +110,22 @@ fn run(rt: &(impl Print + Eprint), src: &[u8]) -> io::Result<()> {
     finish(rt, s, whole)
 }
 
+// Reads until the bytes are full, the input ends or a read fails, and answers how many there are.
+fn read_full(input: &mut Stdin, bytes: &mut [u8]) -> usize
+    ensures { result ≤ length bytes.new }
+{
+    let mut n = 0;
+    while n < bytes.len() {
+        match input.read(&mut bytes[n..]) {
+            Ok(more) if 0 < more => n += more,
+            _ => break,
+        }
+    }
+    n
+}
+
 fn main(rt: HostRuntime) -> io::Result<()> {
-    let mut bytes = Vec::new(rt.alloc());
-    rt.stdin().take(65536).read_to_end(&mut bytes)?;
-    run(&rt, &bytes)
+    let mut bytes = [0u8; 65536];
+    let n = read_full(&mut rt.stdin(), &mut bytes);
+    run(&rt, &bytes[..n])
 }
