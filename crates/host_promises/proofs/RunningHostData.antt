@@ -18,9 +18,10 @@ use Rattle.promises.proofs.Ends.{AsSent}
 use Rattle.promises.proofs.Made.{MadeFrom, last_of}
 use Rattle.host_promises.specs.Streams.{StoreInput}
 use Rattle.host_promises.specs.HostEnds.{bands}
-use Rattle.host_promises.specs.HostCarried.{HostParcel, host_laden, host_with_data, host_without_data, host_six_kept, host_alike}
-use Rattle.host_promises.specs.RunningHost.{HostCode, HostDecode, host_codes, host_decodes, sent_by, spoken_to, came_to, heard_from}
-use Rattle.host_promises.specs.RunningHost.{running_host_ends_equal, running_host_unheard}
+use Rattle.host_promises.specs.HostCarried.{HostParcel, host_laden, host_with_data, host_without_data}
+use Rattle.host_promises.proofs.HostCarried.{host_six_kept, host_alike}
+use Rattle.host_promises.proofs.RunningHost.{HostCode, HostDecode, host_codes, host_decodes, sent_by, spoken_to, came_to, heard_from}
+use Rattle.host_promises.proofs.RunningHost.{running_host_ends_equal, running_host_unheard}
 
 -- a call of `zelcandry_put` that was made: the lifetimes and what was lent, the word that it answered and what it left; and the memory
 -- that is lent later, when its octets are decoded

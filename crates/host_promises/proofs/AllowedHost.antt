@@ -5,10 +5,10 @@ use Rattle.host.specs.Calls.{code_bytes, decode_bytes, put_bytes}
 use Rattle.promises.proofs.Made.{MadeFrom}
 use Rattle.promises.proofs.Allowed.{allowed, Makes, all_made, lent, lent_out}
 use Rattle.host_promises.specs.Streams.{EncodeInput, StoreInput}
-use Rattle.host_promises.specs.HostCalls.{returned}
 use Rattle.host_promises.specs.HostCarried.{HostParcel}
-use Rattle.host_promises.specs.RunningHost.{HostCode, HostDecode, host_codes, host_decodes}
-use Rattle.host_promises.specs.RunningHostData.{HostPut, HostPuts, host_parcel}
+use Rattle.host_promises.proofs.HostCalls.{returned}
+use Rattle.host_promises.proofs.RunningHost.{HostCode, HostDecode, host_codes, host_decodes}
+use Rattle.host_promises.proofs.RunningHostData.{HostPut, HostPuts, host_parcel}
 
 code : List ℕ → EncodeInput → HostCode
 code s k =

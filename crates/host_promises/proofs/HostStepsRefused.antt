@@ -22,8 +22,8 @@ use Rattle.host.specs.Calls.{after_decoding}
 use Rattle.host_steps.specs.Calls.{hear_bytes, join_bytes}
 use Rattle.promises.proofs.Refused.{Beside}
 use Rattle.promises.proofs.RefusedLaws.{unchanged, indexed, accepted}
-use Rattle.host_promises.specs.Packed.{Parts, parts}
-use Rattle.host_promises.specs.HostRefused.{in_word, stayed}
+use Rattle.host_promises.proofs.Packed.{Parts, parts}
+use Rattle.host_promises.proofs.HostRefused.{in_word, stayed}
 
 -- a chunk of each step: what is so beside its number, which is of one byte
 

@@ -19,7 +19,7 @@ use Rattle.host.specs.Calls.{state_after, after_decoding}
 use Rattle.host_steps.specs.Calls.{hear_bytes}
 use Rattle.promises.proofs.Unheard.{Alike}
 use Rattle.promises.proofs.UnheardCall.{counted_same, heard_same}
-use Rattle.host_promises.specs.HostStepsRefused.{hear_parts}
+use Rattle.host_promises.proofs.HostStepsRefused.{hear_parts}
 
 module _ (told : ℕ) (os rs x y u v : List ℕ)
     (a : Alike (in_force told) os rs) (l : length x ≡ length u) (m : length y ≡ length v) where

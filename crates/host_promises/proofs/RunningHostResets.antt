@@ -15,8 +15,8 @@ use Rattle.promises.proofs.Made.{Made, MadeFrom, last_of}
 use Rattle.promises.proofs.Turns.{Turn, reset, since}
 use Rattle.promises.proofs.MadeTurns.{MadeTurns, FromReset, made_since}
 use Rattle.host_promises.specs.HostEnds.{bands}
-use Rattle.host_promises.specs.RunningHost.{HostCode, HostDecode, host_codes, host_decodes, sent_by, spoken_to, came_to}
-use Rattle.host_promises.specs.RunningHost.{running_host_ends_equal, running_host_behind, running_host_states_equal}
+use Rattle.host_promises.proofs.RunningHost.{HostCode, HostDecode, host_codes, host_decodes, sent_by, spoken_to, came_to}
+use Rattle.host_promises.proofs.RunningHost.{running_host_ends_equal, running_host_behind, running_host_states_equal}
 
 from_start : {C : Calls} (M : Made C) (start : C.State) {ks : List M.Call} {u : C.State} → FromReset M (λ s. s ≡ start) ks u
     → MadeFrom M start ks × (last_of M start ks ≡ u)

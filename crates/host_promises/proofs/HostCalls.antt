@@ -22,11 +22,12 @@ use Rattle.state.proofs.Reset.{coder_reset_bytes, decoder_reset_bytes}
 use Rattle.host.specs.Answer.{number_in}
 use Rattle.host.specs.Calls.{after_coding, code_bytes, after_decoding, decode_bytes}
 use Rattle.promises.proofs.Through.{Calls, through, taken, lefts}
-use Rattle.host_promises.specs.ChunksRefused.{encode_chunk_beside, decode_chunk_beside}
-use Rattle.host_promises.specs.Streams.{EncodeInput, encoding, encoding_runs, StoreInput, storing, storing_runs}
-use Rattle.host_promises.specs.Fitting.{encode_stays_fitting, store_stays_fitting}
-use Rattle.host_promises.specs.Packed.{code_parts, decode_parts}
-use Rattle.host_promises.specs.Kept.{Keeps, kept, kept_as_one_run, kept_left_as_one_run}
+use Rattle.host_promises.specs.Streams.{EncodeInput, StoreInput}
+use Rattle.host_promises.proofs.ChunksRefused.{encode_chunk_beside, decode_chunk_beside}
+use Rattle.host_promises.proofs.Streams.{encoding, encoding_runs, storing, storing_runs}
+use Rattle.host_promises.proofs.Fitting.{encode_stays_fitting, store_stays_fitting}
+use Rattle.host_promises.proofs.Packed.{code_parts, decode_parts}
+use Rattle.host_promises.proofs.Kept.{Keeps, kept, kept_as_one_run, kept_left_as_one_run}
 
 -- what a host has after a call: the word that it answered, and the state
 pub record Returned : Type 0 where

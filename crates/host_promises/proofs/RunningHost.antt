@@ -24,10 +24,11 @@ use Rattle.promises.proofs.MadeLaws.{made_record, made_answers, made_taken, made
 use Rattle.promises.proofs.StepRuns.{received}
 use Rattle.promises.proofs.Ends.{AsSent}
 use Rattle.promises.proofs.Alike.{Each}
-use Rattle.host_promises.specs.HostCalls.{Returned, returned, host_coding, host_octets_as_one_run, host_coder_as_one_run}
-use Rattle.host_promises.specs.HostCalls.{host_decoding, host_samples_as_one_run, host_decoder_as_one_run}
-use Rattle.host_promises.specs.HostEnds.{bands, host_ends_equal, host_state_behind, host_states_equal}
-use Rattle.host_promises.specs.HostUnheard.{AlikeInput, host_answers_unheard, host_samples_unheard, host_state_unheard}
+use Rattle.host_promises.specs.HostEnds.{bands}
+use Rattle.host_promises.proofs.HostCalls.{Returned, returned, host_coding, host_octets_as_one_run, host_coder_as_one_run}
+use Rattle.host_promises.proofs.HostCalls.{host_decoding, host_samples_as_one_run, host_decoder_as_one_run}
+use Rattle.host_promises.proofs.HostEnds.{host_ends_equal, host_state_behind, host_states_equal}
+use Rattle.host_promises.proofs.HostUnheard.{AlikeInput, host_answers_unheard, host_samples_unheard, host_state_unheard}
 
 -- ---- what the contracts allow
 

@@ -12,8 +12,9 @@ use Rattle.promises.proofs.Ends.{AsSent}
 use Rattle.promises.proofs.Turns.{Turn, reset, since}
 use Rattle.promises.proofs.Resets.{record_after, taken_since, left_since, taken_since_lem, left_since_lem, record_forgets}
 use Rattle.host_promises.specs.Streams.{EncodeInput, StoreInput}
-use Rattle.host_promises.specs.HostCalls.{host_coding, host_decoding}
-use Rattle.host_promises.specs.HostEnds.{bands, host_ends_equal, host_state_behind, host_states_equal}
+use Rattle.host_promises.specs.HostEnds.{bands}
+use Rattle.host_promises.proofs.HostCalls.{host_coding, host_decoding}
+use Rattle.host_promises.proofs.HostEnds.{host_ends_equal, host_state_behind, host_states_equal}
 
 module _ (cs : List (Turn EncodeInput)) (ds : List (Turn StoreInput)) where
   -- since the last reset: the samples of the coder's accepted calls, the octets that they left, and the octets of the decoder's

@@ -16,8 +16,8 @@ use Rattle.host.specs.Answer.{packed, number_in, index_in, limited_in}
 use Rattle.host.specs.Calls.{state_after, after_coding, code_bytes, after_decoding, decode_bytes, after_data, put_bytes, take_bytes}
 use Rattle.promises.proofs.Refused.{Beside}
 use Rattle.promises.proofs.RefusedLaws.{put_beside, take_beside}
-use Rattle.host_promises.specs.ChunksRefused.{encode_chunk_beside, decode_chunk_beside}
-use Rattle.host_promises.specs.Packed.{Parts, code_parts, decode_parts, put_parts, take_parts}
+use Rattle.host_promises.proofs.ChunksRefused.{encode_chunk_beside, decode_chunk_beside}
+use Rattle.host_promises.proofs.Packed.{Parts, code_parts, decode_parts, put_parts, take_parts}
 
 -- what is so beside the number, the index and the count is so beside the word that holds them
 pub in_word : {word number index limited : ℕ} {X Y : Type 0} {back came : X} {back' came' : Y} → Parts word number index limited

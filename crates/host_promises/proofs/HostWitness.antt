@@ -15,8 +15,9 @@ use Rattle.host.specs.Calls.{after_coding, code_bytes, after_decoding, decode_by
 use Rattle.promises.proofs.Through.{through, answers, of_accepted}
 use Rattle.promises.proofs.StepRuns.{received}
 use Rattle.host_promises.specs.Streams.{EncodeInput, StoreInput}
-use Rattle.host_promises.specs.HostCalls.{Returned, host_coding, host_sent, host_decoding, host_came}
-use Rattle.host_promises.specs.HostEnds.{bands, host_states_equal}
+use Rattle.host_promises.specs.HostEnds.{bands}
+use Rattle.host_promises.proofs.HostCalls.{Returned, host_coding, host_sent, host_decoding, host_came}
+use Rattle.host_promises.proofs.HostEnds.{host_states_equal}
 
 -- 0, 900, 2400 and -300; then 5 and 16384, which is out of range
 abbrev pub host_calls : List EncodeInput

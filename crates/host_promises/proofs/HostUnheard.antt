@@ -25,8 +25,8 @@ use Rattle.promises.proofs.Unheard.{Alike}
 use Rattle.promises.proofs.UnheardCall.{full_same, run_same}
 use Rattle.promises.proofs.Alike.{Each, answers_alike, state_alike, lefts_alike}
 use Rattle.host_promises.specs.Streams.{StoreInput}
-use Rattle.host_promises.specs.Packed.{decode_parts}
-use Rattle.host_promises.specs.HostCalls.{Returned, returned, host_decoding, host_heard}
+use Rattle.host_promises.proofs.Packed.{decode_parts}
+use Rattle.host_promises.proofs.HostCalls.{Returned, returned, host_decoding, host_heard}
 
 -- ---- a call
 

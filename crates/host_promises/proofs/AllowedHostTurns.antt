@@ -6,8 +6,8 @@ use Rattle.state.specs.Reset.{reset_bytes}
 use Rattle.promises.proofs.Turns.{Turn}
 use Rattle.promises.proofs.AllowedTurns.{Turning, all_turns}
 use Rattle.host_promises.specs.Streams.{EncodeInput, StoreInput}
-use Rattle.host_promises.specs.RunningHost.{host_codes, host_decodes}
-use Rattle.host_promises.specs.AllowedHost.{makes_host_code, makes_host_decode}
+use Rattle.host_promises.proofs.RunningHost.{host_codes, host_decodes}
+use Rattle.host_promises.proofs.AllowedHost.{makes_host_code, makes_host_decode}
 
 -- THE THEOREMS: any calls and resets can be made at each end by a host
 pub can_host_code_turns : (state : List ℕ) (ts : List (Turn EncodeInput)) → Turning host_codes (λ s. s ≡ reset_bytes 1) state ts
