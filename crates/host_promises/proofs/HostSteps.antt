@@ -150,5 +150,6 @@ module _ (state : List ℕ) (held : Holds 2 state) (told : ℕ) (octets samples 
       let x = rls_of mode d.low octets in
       let y = rhs_of d.high octets in
       let second : join_chunk (heard_after d octets) (pcm_bytes x) (pcm_bytes y) samples ≡ as_bytes (decoded mode d octets) =
-      joins_good mode d octets samples tests.few tests.four _ (heard_good d octets tests.sound) ∙ ap as_bytes (in_steps_lem mode d octets) in
+      joins_good mode d octets samples tests.few tests.four _ (heard_good d octets tests.sound)
+      ∙ ap as_bytes (in_steps_lem mode d octets) in
       rw (decoded_chunk d told octets samples tests, first, back, second)
