@@ -32,12 +32,7 @@ pub fn zelcandry_code(state: &mut [u8], samples: &[u8], octets: &mut [u8]) -> u6
 }
 
 // Decodes n octets to 4n bytes of samples, in a told mode.
-pub fn zelcandry_decode(
-    state: &mut [u8],
-    mode: u8,
-    octets: &[u8],
-    samples: &mut [u8],
-) -> u64
+pub fn zelcandry_decode(state: &mut [u8], mode: u8, octets: &[u8], samples: &mut [u8]) -> u64
     ensures { Does (decode_bytes state.old mode octets.now samples.old) result
         (state.new, samples.new) }
 {

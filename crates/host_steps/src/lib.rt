@@ -38,12 +38,7 @@ pub fn zelcandry_hear(
 }
 
 // The second step: 2n bytes of low and 2n of high signals to 4n bytes of samples.
-pub fn zelcandry_join(
-    state: &mut [u8],
-    low: &[u8],
-    high: &[u8],
-    samples: &mut [u8],
-) -> u64
+pub fn zelcandry_join(state: &mut [u8], low: &[u8], high: &[u8], samples: &mut [u8]) -> u64
     ensures { Does (join_bytes state.old low.now high.now samples.old) result
         (state.new, samples.new) }
 {
