@@ -18,7 +18,7 @@ use Rattle.playing.specs.declared.Player.{Player}
 use Rattle.playing.specs.declared.Played.{Played}
 use Rattle.listing.specs.Listed.{listed}
 use Rattle.listing.specs.Listing.{pieces, start, lines_from, listing}
-use Rattle.listing.specs.Turns.{pieces_none, pieces_some}
+use Rattle.listing.proofs.Turns.{pieces_none, pieces_some}
 
 -- ---- the lines of a recording depend on the record that its first block starts from, and on nothing else that was before
 
