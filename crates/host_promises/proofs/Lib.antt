@@ -16,6 +16,7 @@ pub mod HostResets
 pub mod HostStepsRefused
 pub mod HostStepsLeft
 pub mod HostSteps
+pub mod HostInSteps
 -- cue bits
 pub mod HostUnheard
 pub mod HostSignals

@@ -6,6 +6,7 @@ pub mod RefusedLaws
 pub mod Index
 pub mod IndexLaws
 pub mod Steps
+pub mod StepsLaws
 pub mod StepLeaves
 -- sequences of calls
 pub mod Through

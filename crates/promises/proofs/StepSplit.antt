@@ -10,7 +10,8 @@ use Rattle.std.proofs.Math.Dec.{eqb}
 use Rattle.std.proofs.lemmas.List.{length-replicate}
 use Rattle.laws.specs.Order.{by_test}
 use Rattle.g722.specs.declared.Decoder.{Decoder}
-use Rattle.promises.proofs.Steps.{two_steps, first_accepted, in_two_steps_lem}
+use Rattle.promises.proofs.Steps.{two_steps}
+use Rattle.promises.proofs.StepsLaws.{first_accepted, in_two_steps_lem}
 use Rattle.promises.proofs.Through.{Calls, done, following, through, of_accepted, lefts}
 use Rattle.promises.proofs.Sequences.{DecodeInput, decoding, decoding_runs}
 use Rattle.promises.proofs.HearCalls.{HearInput, hears}
