@@ -12,6 +12,8 @@ from collections import namedtuple
 
 ROOT = pathlib.Path(__file__).resolve().parent.parent
 ITEM = re.compile(r'^(?:pub(?:\(crate\))? )?(?:ghost )?(?:extern "C" )?(\w+) (?:\w+::)*(\w+)', re.M)
+BLOCK = re.compile(r"(?:pub )?(?:impl(?:<[^{]*?>)? (?:(\w+)(?:<[^{]*?>)? for )?(\w+)|trait (\w+))")
+MEMBER = re.compile(r"^    (?:pub(?:\(crate\))? )?(fn|const) (\w+)", re.M)
 DEFINED = re.compile(r"^ *(?:unfoldable |abbrev )?(?:pub )?([\w'-]+) :(?=\s)", re.M)
 MODULE = re.compile(r"( *)module ")
 STARTS = re.compile(rf"{DEFINED.pattern}|^{MODULE.pattern}", re.M)
@@ -26,13 +28,23 @@ def contents(crate):
     return {str(f.relative_to(crate)): f.read_text() for part in ("src", "specs", "proofs") for f in (crate / part).rglob("*.*")}
 
 
+def member(block, at):
+    """The function or constant of a block of methods that a place belongs to. Its proof is named after the block: after the type, or the type
+    and the trait."""
+    trait, typed, named = BLOCK.match(block).groups()
+    found = [m[2] for m in MEMBER.finditer(block) if m.start() <= at]
+    return [f"{named or typed + (trait or '')}/{found[-1]}"] if found else []
+
+
 def owners(text, at):
     """The functions that a place of the code belongs to, and, in an import line, those that name what it brings. A constant belongs
     to all that name it."""
     starts = [*ITEM.finditer(text)]
     ends = [m.start() for m in starts[1:]] + [len(text)]
     items = [(m[1], m[2], m.start(), end) for m, end in zip(starts, ends)]
-    kind, name = next(((k, n) for k, n, start, end in items if start <= at < end), ("", ""))
+    kind, name, first, last = next((item for item in items if item[2] <= at < item[3]), ("", "", 0, 0))
+    if kind in ("impl", "trait"):
+        return member(text[first:last], at - first), []
     # an import line may bring several names
     brought = re.findall(r"\w+", text[at:text.find(";", at)].partition("{")[2]) if kind == "use" else []
     named = "|".join(brought or [name])
@@ -53,12 +65,20 @@ def defined(text, at):
     return DEFINED.findall(body)
 
 
-def belonging(file, text, at):
+def home(file, texts, name):
+    """The file whose proofs a function's stand among: a method's are with its type, wherever the block of methods stands."""
+    typed, _, method = name.partition("/")
+    declared = re.compile(rf"^(?:pub(?:\(crate\))? )?(?:struct|enum) {typed}\b", re.M)
+    return next((f for f, text in texts.items() if f.startswith("src/") and declared.search(text)), file) if method else file
+
+
+def belonging(file, texts, at):
     """What a place of a file belongs to, and what it lends to."""
+    text = texts[file]
     part, *folders = pathlib.PurePath(file).with_suffix("").parts
     if part == "src":
-        module = [f for f in folders if f not in ("lib", "main", "mod")]
-        return (["/".join([*module, name]) for name in names] for names in owners(text, at))
+        module = {name: pathlib.PurePath(home(file, texts, name)).with_suffix("").parts[1:] for names in owners(text, at) for name in names}
+        return (["/".join([*(f for f in module[n] if f not in ("lib", "main", "mod")), n]) for n in names] for names in owners(text, at))
     return ["=" + name for name in defined(text, at)] if len(folders) == 1 else [], []
 
 
@@ -85,7 +105,7 @@ def errors_of(edit, texts):
             if not old or texts.get(file, "").count(old) != 1:
                 sys.exit(f"sweep: FAILED: {edit.relative_to(ROOT)}: `{old}` does not stand once in {file}")
             errors += [] if named else [Error("", set(), [])]
-            errors[-1].pairs.append(Pair(file, old, value, *belonging(file, texts[file], texts[file].index(old))))
+            errors[-1].pairs.append(Pair(file, old, value, *belonging(file, texts, texts[file].index(old))))
             errors[-1].places.update(places)
             texts[file], places = texts[file].replace(old, value), set()
     return errors
@@ -125,7 +145,7 @@ def unproved(log, texts, owner):
     yield from re.findall(r"`([^`]+)`", said[1]) if said else []
     for file, line, goal in re.findall(r"^note: (src/[\w/]+\.rt):(\d+):\d+: it is not proved that .*\(`([^`]+)`\)", log, re.M):
         at = sum(map(len, texts[file].splitlines(True)[:int(line) - 1]))
-        yield from [goal] if owner in [*belonging(file, texts[file], at)][0] else []
+        yield from [goal] if owner in [*belonging(file, texts, at)][0] else []
 
 
 def places(log, texts, owner):

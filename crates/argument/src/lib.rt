@@ -1,39 +1,29 @@
 // A number as an argument of a program gives it.
 #![tactic(auto)]
 
-ghost use Rattle.std.specs.Prelude.{◌≡◌, ◌≤◌};
-ghost use Rattle.argument.specs.Number.{with, number_of};
+ghost use Rattle.std.specs.Prelude.{◌≡◌};
+ghost use Rattle.argument.specs.Number.{with, number_of, below};
 
-// The number so far with one more digit, or 2^32 where the byte is no digit or the number would reach it.
-fn with(number: u64, byte: u8) -> u64
-    requires { number ≤ 4294967296 }
-    ensures { (result ≡ with number byte) × (result ≤ 4294967296) }
+// The number with one more digit behind it, where the byte is a digit and what comes of it lies below 2^32.
+fn with(number: u32, byte: u8) -> Option<u32>
+    ensures { result ≡ below (with number byte) }
 {
-    if byte < 48 {
-        return 4294967296;
+    if !(b'0'..=b'9').contains(&byte) {
+        return None;
     }
-    if 57 < byte {
-        return 4294967296;
-    }
-    let longer = 10 * number + (byte - 48) as u64;
-    if 4294967296 < longer {
-        return 4294967296;
-    }
-    longer
+    number.checked_mul(10)?.checked_add(u32::from(byte - b'0'))
 }
 
-// The number that a word of decimal digits gives, or 2^32 where it gives none below.
-pub fn number(word: &[u8]) -> u64
-    ensures { result ≡ number_of word.now }
+// The number that a word of decimal digits gives, where it gives one below 2^32.
+pub fn number(word: &[u8]) -> Option<u32>
+    ensures { result ≡ below (number_of word.now) }
 {
-    if word.len() == 0 {
-        return 4294967296;
+    if word.is_empty() {
+        return None;
     }
-    let mut all: u64 = 0;
-    let mut i: usize = 0;
-    while i < word.len() {
-        all = with(all, word[i]);
-        i += 1;
+    let mut all = 0;
+    for byte in word {
+        all = with(all, *byte)?;
     }
-    all
+    Some(all)
 }

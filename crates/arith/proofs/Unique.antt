@@ -7,6 +7,9 @@ use Rattle.arith.specs.contracts as contracts
 pub wide : LeavesOne contracts.wide.ended (λ M 𝓤. contracts.wide.clauses) arith.wide.Symbol.name arith.wide.Symbol.code
 wide = equation (λ κs a l m. refl) (λ M. arith.wide.Met.met)
 
+pub fit : LeavesOne contracts.fit.ended (λ M 𝓤. contracts.fit.clauses) arith.fit.Symbol.name arith.fit.Symbol.code
+fit = equation (λ κs a l m. refl) (λ M. arith.fit.Met.met)
+
 pub clamp : LeavesOne contracts.clamp.ended (λ M 𝓤. contracts.clamp.clauses) arith.clamp.Symbol.name arith.clamp.Symbol.code
 clamp = equation (λ κs a l m. refl) (λ M. arith.clamp.Met.met)
 
@@ -22,23 +25,17 @@ mul = equation (λ κs a l m. refl) (λ M. arith.mul.Met.met)
 pub limit : LeavesOne contracts.limit.ended (λ M 𝓤. contracts.limit.clauses) arith.limit.Symbol.name arith.limit.Symbol.code
 limit = equation (λ κs a l m. refl) (λ M. arith.limit.Met.met)
 
-pub one : LeavesOne contracts.one.ended (λ M 𝓤. contracts.one.clauses) arith.one.Symbol.name arith.one.Symbol.code
-one = equation (λ κs a l m. refl) (λ M. arith.one.Met.met)
-
 pub changes : LeavesOne contracts.changes.ended (λ M 𝓤. contracts.changes.clauses) arith.changes.Symbol.name arith.changes.Symbol.code
 changes = equation (λ κs a l m. refl) (λ M. arith.changes.Met.met)
 
 pub size : LeavesOne contracts.size.ended (λ M 𝓤. contracts.size.clauses) arith.size.Symbol.name arith.size.Symbol.code
 size = equation (λ κs a l m. refl) (λ M. arith.size.Met.met)
 
+pub same : LeavesOne contracts.same.ended (λ M 𝓤. contracts.same.clauses) arith.same.Symbol.name arith.same.Symbol.code
+same = equation (λ κs a l m. refl) (λ M. arith.same.Met.met)
+
 pub same_sign : LeavesOne contracts.same_sign.ended (λ M 𝓤. contracts.same_sign.clauses) arith.same_sign.Symbol.name arith.same_sign.Symbol.code
 same_sign = equation (λ κs a l m. refl) (λ M. arith.same_sign.Met.met)
 
 pub within : LeavesOne contracts.within.ended (λ M 𝓤. contracts.within.clauses) arith.within.Symbol.name arith.within.Symbol.code
 within = equation (λ κs a l m. refl) (λ M. arith.within.Met.met)
-
-pub equal : LeavesOne contracts.equal.ended (λ M 𝓤. contracts.equal.clauses) arith.equal.Symbol.name arith.equal.Symbol.code
-equal = equation (λ κs a l m. refl) (λ M. arith.equal.Met.met)
-
-pub pick : LeavesOne contracts.pick.ended (λ M 𝓤. contracts.pick.clauses) arith.pick.Symbol.name arith.pick.Symbol.code
-pick = equation (λ κs a l m. refl) (λ M. arith.pick.Met.met)

@@ -117,28 +117,25 @@ pub fn outputs(high: bool, mode: u8) -> [i16; 64]
     ensures { result ≡ outputs_of high mode }
 {
     if high {
-        return TWO;
+        TWO
+    } else if mode == 1 {
+        SIX
+    } else if mode == 2 {
+        FIVE
+    } else {
+        FOUR
     }
-    if mode == 1 {
-        return SIX;
-    }
-    if mode == 2 {
-        return FIVE;
-    }
-    FOUR
 }
 
 // The weights of the log factors by a word's upper four bits.
 pub fn weights(high: bool) -> [i16; 16]
     ensures { result ≡ weights_of high }
 {
-    if high {
-        return HIGH;
-    }
-    LOW
+    if high { HIGH } else { LOW }
 }
 
 // Table 15 whole.
+#[tactic(auto, unfolding(g722::specs::Tables::ilb))]
 pub fn ilb() -> [u16; 32]
     ensures { result ≡ ilb }
 {

@@ -6,8 +6,9 @@ ghost use mathlib.Core.List.{zip_with};
 ghost use Rattle.g722.specs.Band.{slide, term, filtez, filtep, gain, upzero, four, turned, uppol2, uppol1, next_zeros, next_poles};
 ghost use Rattle.band.specs.Loop.{estimated, adapted};
 
-use arith::{add, clamp, equal, mul, pick, same_sign, sub, wide};
+use arith::{add, clamp, mul, same_sign, sub, wide};
 use g722::{Band, Factors, Poles, Zeros};
+use std::array;
 
 // What is known before the difference: SZ, the output of the transversal part, and S, the prediction.
 #[derive(Clone, Copy)]
@@ -27,13 +28,9 @@ fn term(b: i16, d: i16) -> i16
 pub fn filtez(z: Zeros) -> i16
     ensures { result ≡ filtez z }
 {
-    let b = z.b;
-    let d = z.d;
-    let mut sum: i16 = 0;
-    for i in 0..6 {
-        sum = add(sum, term(b[i], d[i]));
-    }
-    sum
+    z.b.iter()
+        .zip(&z.d)
+        .fold(0, |sum, (b, d)| add(sum, term(*b, *d)))
 }
 
 // FILTEP: the output of the recursive part.
@@ -47,21 +44,16 @@ pub fn filtep(s: Poles) -> i16
 pub fn estimate(s: Band) -> Estimates
     ensures { result ≡ estimated s }
 {
-    let zeros = s.zeros;
-    let poles = s.poles;
-    let sz = filtez(zeros);
-    let predicted = add(filtep(poles), sz);
-    Estimates {
-        sz: sz,
-        s: predicted,
-    }
+    let sz = filtez(s.zeros);
+    let predicted = add(filtep(s.poles), sz);
+    Estimates { sz, s: predicted }
 }
 
 // The gain of UPZERO: none at a difference of 0.
 fn gain(d: i16) -> i16
     ensures { result ≡ gain d }
 {
-    pick(equal(d, 0), 0, 128)
+    if d == 0 { 0 } else { 128 }
 }
 
 // UPZERO: the next value of the coefficient bi, which meets the past difference di, at the difference d.
@@ -69,7 +61,8 @@ pub fn upzero(d: i16, bi: i16, di: i16) -> i16
     ensures { result ≡ upzero d bi di }
 {
     let g = gain(d);
-    add(pick(same_sign(d, di), g, sub(0, g)), mul(bi, 32640))
+    let signed = if same_sign(d, di) { g } else { sub(0, g) };
+    add(signed, mul(bi, 32640))
 }
 
 // The first coefficient four times, by sums that stop.
@@ -85,22 +78,25 @@ fn turned(s: Poles, p: i16) -> i16
     ensures { result ≡ turned s p }
 {
     let f = four(s.a1);
-    pick(same_sign(p, s.p1), sub(0, f), f) >> 7
+    let signed = if same_sign(p, s.p1) { sub(0, f) } else { f };
+    signed >> 7
 }
 
 // UPPOL2: the next second coefficient, at the partial signal p.
 pub fn uppol2(s: Poles, p: i16) -> i16
     ensures { result ≡ uppol2 s p }
 {
-    let sum = add(turned(s, p), pick(same_sign(p, s.p2), 128, -128));
-    clamp(wide(add(sum, mul(s.a2, 32512))), -12288, 12288)
+    let step = if same_sign(p, s.p2) { 128 } else { -128 };
+    let sum = add(turned(s, p), step);
+    add(sum, mul(s.a2, 32512)).clamp(-12288, 12288)
 }
 
 // UPPOL1: the next first coefficient, after the next second one.
 pub fn uppol1(s: Poles, apl2: i16, p: i16) -> i16
     ensures { result ≡ uppol1 s apl2 p }
 {
-    let sum = add(pick(same_sign(p, s.p1), 192, -192), mul(s.a1, 32640));
+    let step = if same_sign(p, s.p1) { 192 } else { -192 };
+    let sum = add(step, mul(s.a1, 32640));
     let reach = sub(15360, apl2);
     clamp(wide(sum), sub(0, reach), reach)
 }
@@ -109,13 +105,7 @@ pub fn uppol1(s: Poles, apl2: i16, p: i16) -> i16
 fn coefficients(z: Zeros, d: i16) -> [i16; 6]
     ensures { result ≡ zip_with (upzero d) z.b z.d }
 {
-    let b = z.b;
-    let past = z.d;
-    let mut next = b;
-    for k in 0..6 {
-        next[k] = upzero(d, b[k], past[k]);
-    }
-    next
+    array::from_fn(|k| upzero(d, z.b[k], z.d[k]))
 }
 
 // The row of past differences after d: the oldest leaves it.
@@ -123,9 +113,7 @@ fn slide(past: [i16; 6], d: i16) -> [i16; 6]
     ensures { result ≡ slide past d }
 {
     let mut row = past;
-    for i in 0..5 {
-        row[i] = past[i + 1];
-    }
+    row.rotate_left(1);
     row[5] = d;
     row
 }
@@ -134,10 +122,10 @@ fn slide(past: [i16; 6], d: i16) -> [i16; 6]
 pub fn next_zeros(z: Zeros, d: i16) -> Zeros
     ensures { result ≡ next_zeros z d }
 {
-    let past = z.d;
-    let b = coefficients(z, d);
-    let row = slide(past, d);
-    Zeros { b: b, d: row }
+    Zeros {
+        b: coefficients(z, d),
+        d: slide(z.d, d),
+    }
 }
 
 // The recursive part after the partial signal p and the reconstructed signal r.
@@ -147,8 +135,8 @@ pub fn next_poles(s: Poles, p: i16, r: i16) -> Poles
     let a2 = uppol2(s, p);
     let a1 = uppol1(s, a2, p);
     Poles {
-        a1: a1,
-        a2: a2,
+        a1,
+        a2,
         r1: r,
         r2: s.r1,
         p1: p,
@@ -160,13 +148,11 @@ pub fn next_poles(s: Poles, p: i16, r: i16) -> Poles
 pub fn adapt(s: Band, e: Estimates, d: i16, f: Factors) -> Band
     ensures { result ≡ adapted s e d f }
 {
-    let zeros = s.zeros;
-    let poles = s.poles;
     let p = add(d, e.sz);
     let r = add(e.s, d);
     Band {
-        zeros: next_zeros(zeros, d),
-        poles: next_poles(poles, p, r),
+        zeros: next_zeros(s.zeros, d),
+        poles: next_poles(s.poles, p, r),
         factors: f,
     }
 }

@@ -13,28 +13,27 @@ pub fn byte(x: u32) -> u8
 fn byte_at(b: &[u8], i: usize) -> u8
     ensures { result ≡ get_or b.now i 0 }
 {
-    if i < b.len() {
-        return b[i];
-    }
-    0
+    b.get(i).copied().unwrap_or(0)
 }
 
 // The number in two bytes.
 pub fn two_at(b: &[u8], i: usize) -> u16
     ensures { result ≡ two_at b.now i }
 {
-    if b.len() <= i {
-        return 0;
+    if i < b.len() {
+        u16::from_be_bytes([byte_at(b, i), byte_at(b, i + 1)])
+    } else {
+        0
     }
-    byte_at(b, i) as u16 * 256 + byte_at(b, i + 1) as u16
 }
 
 // The number in four bytes.
 pub fn four_at(b: &[u8], i: usize) -> u32
     ensures { result ≡ four_at b.now i }
 {
-    if b.len() <= i {
-        return 0;
+    if i < b.len() {
+        u32::from(two_at(b, i)) * 65536 + u32::from(two_at(b, i + 2))
+    } else {
+        0
     }
-    two_at(b, i) as u32 * 65536 + two_at(b, i + 2) as u32
 }

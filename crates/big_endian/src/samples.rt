@@ -1,51 +1,34 @@
 // Samples as bytes and back: two bytes a sample, high byte first, two's complement.
 ghost use Rattle.std.specs.Prelude.{◌≡◌};
 ghost use Rattle.laws.specs.Outcome.{Does};
-ghost use Rattle.big_endian.specs.Bytes.{sample_of, word_of, high_of, low_of, load_call, store_call};
-
-use bounds::lesser;
+ghost use Rattle.big_endian.specs.Bytes.{sample_of, high_of, low_of, load_call, store_call};
 
 // The sample of a high and a low byte.
 pub fn sample(high: u8, low: u8) -> i16
     ensures { result ≡ sample_of high low }
 {
-    let word = 256 * (high as u32) + low as u32;
-    if word < 32768 {
-        return word as i16;
-    }
-    (word as i32 - 65536) as i16
-}
-
-// The 16 bits of x as a number from 0 up.
-fn word(x: i16) -> u16
-    ensures { result ≡ word_of x }
-{
-    let size = arith::size(x);
-    if x < 0 {
-        return 65535 - size;
-    }
-    size
+    i16::from_be_bytes([high, low])
 }
 
 // The high byte of x.
 pub fn high(x: i16) -> u8
     ensures { result ≡ high_of x }
 {
-    (word(x) / 256) as u8
+    x.to_be_bytes()[0]
 }
 
 // The low byte of x.
 pub fn low(x: i16) -> u8
     ensures { result ≡ low_of x }
 {
-    (word(x) % 256) as u8
+    x.to_be_bytes()[1]
 }
 
 // Reads as many samples as both have room for, and answers how many.
 pub fn load(bytes: &[u8], samples: &mut [i16]) -> usize
     ensures { Does (load_call bytes.now samples.old) result samples.new }
 {
-    let n = lesser(bytes.len() / 2, samples.len());
+    let n = (bytes.len() / 2).min(samples.len());
     for i in 0..n {
         samples[i] = sample(bytes[2 * i], bytes[2 * i + 1]);
     }
@@ -56,11 +39,10 @@ pub fn load(bytes: &[u8], samples: &mut [i16]) -> usize
 pub fn store(samples: &[i16], bytes: &mut [u8]) -> usize
     ensures { Does (store_call samples.now bytes.old) result bytes.new }
 {
-    let n = lesser(samples.len(), bytes.len() / 2);
+    let n = samples.len().min(bytes.len() / 2);
     for i in 0..n {
         let x = samples[i];
-        let first = high(x);
-        let second = low(x);
+        let (first, second) = (high(x), low(x));
         bytes[2 * i] = first;
         bytes[2 * i + 1] = second;
     }

@@ -2,11 +2,11 @@
 -- Assumes nothing.
 use Rattle.std.specs.Prelude.{Bool, true, cond, not, ◌&&◌, List, [], ◌∷◌, ℕ, ◌+◌, ◌-◌, eqb, leb, length, get_or, take, drop}
 use Rattle.laws.specs.Outcome.{Outcome}
-use Rattle.g722.specs.declared.Moved.{Moved}
+use Rattle.g722.specs.Answers.{Moved}
 use Rattle.block.specs.Check.{check}
 use Rattle.big_endian.specs.Numbers.{two_at, four_at}
 use Rattle.block.specs.Layout.{block_of}
-use Rattle.block.specs.declared.BlockRead.{BlockRead}
+use Rattle.block.specs.Read.{BlockRead}
 
 unfoldable pub between : ℕ → ℕ → ℕ → Bool
 between lo hi x = leb lo x && leb x hi

@@ -1,20 +1,20 @@
 // The logger's 512-byte blocks (SCOPE, logger blocks): their check, writing one, reading one.
 #![tactic(auto)]
 
-ghost use Rattle.std.specs.Prelude.{◌≡◌, ◌≤◌, length, replicate};
+ghost use Rattle.std.specs.Prelude.{◌≡◌, ◌≤◌, length};
 ghost use Rattle.laws.specs.Outcome.{Does};
+ghost use Rattle.g722.specs.Answers.{moved};
 ghost use Rattle.block.specs.Check.{byte_step, check};
 ghost use Rattle.block.specs.Layout.{head, body, block_of};
-ghost use Rattle.block.specs.Calls.{between, allowed, all_zero, well_formed, refused, numbered, write_call, read_call};
+ghost use Rattle.block.specs.Read.{read_as};
+ghost use Rattle.block.specs.Calls.{between, allowed, all_zero, well_formed, write_call, read_call};
 
 use big_endian::{byte, four_at, two_at};
-use g722::Moved;
+use g722::Refusal;
 
-// What a block says: the number of SCOPE, and where it is 0 the fields.
+// What a block says: its take, its number in that, its mode, and how many octets it has.
 #[derive(Clone, Copy)]
-pub struct BlockRead {
-    pub number: u8,
-    pub index: usize,
+pub struct Header {
     pub take: u32,
     pub block: u32,
     pub mode: u8,
@@ -36,10 +36,8 @@ pub fn check(bytes: &[u8]) -> u16
     ensures { result ≡ check bytes.now }
 {
     let mut reg: u16 = 65535;
-    let mut i: usize = 0;
-    while i < bytes.len() {
-        reg = byte_step(reg, bytes[i]);
-        i += 1;
+    for byte in bytes {
+        reg = byte_step(reg, *byte);
     }
     reg
 }
@@ -48,20 +46,14 @@ pub fn check(bytes: &[u8]) -> u16
 fn between(lo: usize, hi: usize, x: usize) -> bool
     ensures { result ≡ between lo hi x }
 {
-    if lo <= x {
-        return x <= hi;
-    }
-    false
+    lo <= x && x <= hi
 }
 
 // Whether a block may have this mode and this many octets.
 fn allowed(mode: u8, count: usize) -> bool
     ensures { result ≡ allowed mode count }
 {
-    if between(1, 3, mode as usize) {
-        return between(1, 480, count);
-    }
-    false
+    between(1, 3, mode as usize) && between(1, 480, count)
 }
 
 // The first twelve bytes of a block.
@@ -84,29 +76,6 @@ fn head(take: u32, block: u32, mode: u8, count: u32) -> [u8; 12]
     ]
 }
 
-// Bytes copied over as many others.
-fn copy_in(to: &mut [u8], from: &[u8])
-    requires { length to.old ≡ length from.now }
-    ensures { to.new ≡ from.now }
-{
-    let mut i: usize = 0;
-    while i < from.len() {
-        to[i] = from[i];
-        i += 1;
-    }
-}
-
-// Zeros over bytes.
-fn clear(to: &mut [u8])
-    ensures { to.new ≡ replicate (length to.old) 0 }
-{
-    let mut i: usize = 0;
-    while i < to.len() {
-        to[i] = 0;
-        i += 1;
-    }
-}
-
 // Bytes 0 to 509 of a block.
 fn put_body(take: u32, block: u32, mode: u8, octets: &[u8], to: &mut [u8])
     requires { (length to.old ≡ 510) × (length octets.now ≤ 480) }
@@ -115,9 +84,9 @@ fn put_body(take: u32, block: u32, mode: u8, octets: &[u8], to: &mut [u8])
     let count = octets.len();
     let end = 12 + count;
     let first = head(take, block, mode, count as u32);
-    copy_in(&mut to[0..12], &first);
-    copy_in(&mut to[12..end], octets);
-    clear(&mut to[end..510]);
+    to[0..12].copy_from_slice(&first);
+    to[12..end].copy_from_slice(octets);
+    to[end..510].fill(0);
 }
 
 // A whole block: the body and its check.
@@ -131,42 +100,30 @@ fn put(take: u32, block: u32, mode: u8, octets: &[u8], out: &mut [u8])
     out[511] = byte(sum);
 }
 
-// The answer of a write.
-fn numbered(number: u8) -> Moved
-    ensures { result ≡ numbered number }
-{
-    Moved {
-        number: number,
-        index: 0,
-    }
-}
-
 // Writes a block into the 512 bytes lent: 6, then 8.
-pub fn write(take: u32, block: u32, mode: u8, octets: &[u8], out: &mut [u8]) -> Moved
-    ensures { Does (write_call take block mode octets.now out.old) result out.new }
+pub fn write(take: u32, block: u32, mode: u8, octets: &[u8], out: &mut [u8]) -> Result<(), Refusal>
+    ensures { Does (write_call take block mode octets.now out.old) (moved result) out.new }
 {
     let whole = out.len() == 512;
     let fits = allowed(mode, octets.len());
     if !whole {
-        return numbered(6);
+        Err(Refusal::BlockSize)
+    } else if !fits {
+        Err(Refusal::Contents)
+    } else {
+        put(take, block, mode, octets, out);
+        Ok(())
     }
-    if !fits {
-        return numbered(8);
-    }
-    put(take, block, mode, octets, out);
-    numbered(0)
 }
 
 // Whether every byte is zero.
 fn all_zero(bytes: &[u8]) -> bool
     ensures { result ≡ all_zero bytes.now }
 {
-    let mut i: usize = 0;
-    while i < bytes.len() {
-        if bytes[i] != 0 {
+    for byte in bytes {
+        if *byte != 0 {
             return false;
         }
-        i += 1;
     }
     true
 }
@@ -180,49 +137,28 @@ fn well_formed(b: &[u8]) -> bool
     if !allowed(b[8], count) {
         return false;
     }
-    if b[9] != 0 {
-        return false;
-    }
-    let end = 12 + count;
-    all_zero(&b[end..510])
-}
-
-// A refusal: its number, and 0 in every other field.
-fn refused(number: u8) -> BlockRead
-    ensures { result ≡ refused number }
-{
-    BlockRead {
-        number: number,
-        index: 0,
-        take: 0,
-        block: 0,
-        mode: 0,
-        count: 0,
-    }
+    b[9] == 0 && all_zero(&b[12 + count..510])
 }
 
 // Reads a block: 6, then 7, then 8.
-pub fn read(b: &[u8]) -> BlockRead
-    ensures { result ≡ read_call b.now }
+pub fn read(b: &[u8]) -> Result<Header, Refusal>
+    ensures { read_as result ≡ read_call b.now }
 {
     if b.len() != 512 {
-        return refused(6);
+        return Err(Refusal::BlockSize);
     }
     let right = check(&b[0..510]) == two_at(b, 510);
     let formed = well_formed(b);
     if !right {
-        return refused(7);
+        return Err(Refusal::Check);
     }
     if !formed {
-        return refused(8);
+        return Err(Refusal::Contents);
     }
-    let mode = b[8];
-    BlockRead {
-        number: 0,
-        index: 0,
+    Ok(Header {
         take: four_at(b, 0),
         block: four_at(b, 4),
-        mode: mode,
+        mode: b[8],
         count: two_at(b, 10) as usize,
-    }
+    })
 }

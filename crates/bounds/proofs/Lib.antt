@@ -1,2 +1,3 @@
--- What this crate proves of its functions together.
+-- What the proofs here share, and what this crate proves of its functions together.
+pub mod Chosen
 pub mod Unique

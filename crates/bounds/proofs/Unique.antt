@@ -7,12 +7,6 @@ use Rattle.bounds.specs.contracts as contracts
 pub misfit : LeavesOne contracts.misfit.ended (λ M 𝓤. contracts.misfit.clauses) bounds.misfit.Symbol.name bounds.misfit.Symbol.code
 misfit = equation (λ κs a l m. refl) (λ M. bounds.misfit.Met.met)
 
-pub lesser : LeavesOne contracts.lesser.ended (λ M 𝓤. contracts.lesser.clauses) bounds.lesser.Symbol.name bounds.lesser.Symbol.code
-lesser = equation (λ κs a l m. refl) (λ M. bounds.lesser.Met.met)
-
-pub both : LeavesOne contracts.both.ended (λ M 𝓤. contracts.both.clauses) bounds.both.Symbol.name bounds.both.Symbol.code
-both = equation (λ κs a l m. refl) (λ M. bounds.both.Met.met)
-
 pub in_range : LeavesOne contracts.in_range.ended (λ M 𝓤. contracts.in_range.clauses) bounds.in_range.Symbol.name bounds.in_range.Symbol.code
 in_range = equation (λ κs a l m. refl) (λ M. bounds.in_range.Met.met)
 

@@ -15,8 +15,8 @@ fn put_together(words: &[u8], octets: &mut [u8])
     requires { length words.now ≡ length octets.old }
     ensures { octets.new ≡ zip_with together words.now octets.old }
 {
-    for i in 0..octets.len() {
-        octets[i] = octets[i] % 64 + 64 * (words[i] / 4 % 4);
+    for (i, octet) in octets.iter_mut().enumerate() {
+        *octet = *octet % 64 + 64 * (words[i] / 4 % 4);
     }
 }
 
@@ -37,8 +37,8 @@ pub(crate) fn bands_all(
     requires poles_value_2 { good_poles high.poles ≡ true }
     ensures { Does (bands_run low high xl.now xh.now) result octets.new }
 {
-    let l = code_band(false, low, xl, octets);
-    let h = code_band(true, high, xh, words);
+    let low = code_band(false, low, xl, octets);
+    let high = code_band(true, high, xh, words);
     put_together(words, octets);
-    BothBands { low: l, high: h }
+    BothBands { low, high }
 }

@@ -4,14 +4,15 @@
 
 mod bands;
 
-ghost use Rattle.std.specs.Prelude.{◌≡◌, true, ◌*◌, ◌≤◌, length};
+ghost use Rattle.std.specs.Prelude.{◌≡◌, true, ◌*◌, ◌≤◌, length, Ok};
 ghost use Rattle.laws.specs.Outcome.{Does};
+ghost use Rattle.g722.specs.Answers.{answered};
 ghost use Rattle.g722.specs.Records.{all_in_range, reset_coder, good_coder};
 ghost use Rattle.g722.specs.Coding.{coded, code_call};
 
 use bands::bands_all;
-use bounds::{all_in_range, both, first_bad, good_high, good_low, lesser, misfit, reset_band};
-use g722::{Band, Coded, Coder};
+use bounds::{all_in_range, first_bad, good_high, good_low, misfit, reset_band};
+use g722::{Accepted, Band, Coder, Refusal};
 use mirror::split;
 
 // Both bands.
@@ -22,6 +23,7 @@ pub struct BothBands {
 }
 
 // The record from which both ends start.
+#[tactic(auto, unfolding(g722::specs::Records::reset_coder))]
 pub fn reset() -> Coder
     ensures { result ≡ reset_coder }
 {
@@ -33,37 +35,11 @@ pub fn reset() -> Coder
 }
 
 // Whether a record keeps its bounds.
+#[tactic(auto, unfolding(g722::specs::Records::good_coder))]
 pub fn good_coder(c: Coder) -> bool
     ensures { result ≡ good_coder c }
 {
-    let low = c.low;
-    let high = c.high;
-    let past = c.past;
-    both(both(good_low(low), good_high(high)), all_in_range(&past))
-}
-
-// The answer of a refused call, with no count.
-fn refused(number: u8, index: usize, c: Coder) -> Coded
-    ensures { result ≡ record { number = number; index = index; limited = 0; next = c } }
-{
-    Coded {
-        number: number,
-        index: index,
-        limited: 0,
-        next: c,
-    }
-}
-
-// The answer of an accepted call, with its count.
-fn done(limited: u32, c: Coder) -> Coded
-    ensures { result ≡ record { number = 0; index = 0; limited = limited; next = c } }
-{
-    Coded {
-        number: 0,
-        index: 0,
-        limited: limited,
-        next: c,
-    }
+    good_low(c.low) && good_high(c.high) && all_in_range(&c.past)
 }
 
 // The filter and then the bands, with lent room for the signals and words on their way.
@@ -74,7 +50,7 @@ fn in_turn(
     high: &mut [i16],
     words: &mut [u8],
     octets: &mut [u8],
-) -> Coded
+) -> Accepted<Coder>
     requires octets_len_bound { length octets.old ≤ 160 }
     requires samples_len { length samples.now ≡ 2 * length octets.old }
     requires low_len { length low.old ≡ length octets.old }
@@ -82,31 +58,29 @@ fn in_turn(
     requires words_len { length words.old ≡ length octets.old }
     requires c_value { good_coder c ≡ true }
     requires samples_value { all_in_range samples.now ≡ true }
-    ensures { Does (coded c samples.now) result octets.new }
+    ensures { Does (coded c samples.now) (answered c (Ok result)) octets.new }
 {
-    let past = c.past;
-    let low_band = c.low;
-    let high_band = c.high;
-    let s = split(past, samples, low, high);
-    let b = bands_all(low_band, high_band, low, high, words, octets);
-    let low_next = b.low;
-    let high_next = b.high;
-    let past_next = s.past;
+    let parted = split(c.past, samples, low, high);
+    let bands = bands_all(c.low, c.high, low, high, words, octets);
+    let past = parted.past;
     let next = Coder {
-        low: low_next,
-        high: high_next,
-        past: past_next,
+        low: bands.low,
+        high: bands.high,
+        past,
     };
-    done(s.limited, next)
+    Accepted {
+        limited: parted.limited,
+        next,
+    }
 }
 
 // The same over a block, with room of its own, which begins as ones: for zeros the compiler would call C's memset.
-fn block(c: Coder, samples: &[i16], octets: &mut [u8]) -> Coded
+fn block(c: Coder, samples: &[i16], octets: &mut [u8]) -> Accepted<Coder>
     requires octets_len_bound { length octets.old ≤ 160 }
     requires samples_len { length samples.now ≡ 2 * length octets.old }
     requires c_value { good_coder c ≡ true }
     requires samples_value { all_in_range samples.now ≡ true }
-    ensures { Does (coded c samples.now) result octets.new }
+    ensures { Does (coded c samples.now) (answered c (Ok result)) octets.new }
 {
     let n = octets.len();
     let mut low = [1i16; 160];
@@ -123,40 +97,36 @@ fn block(c: Coder, samples: &[i16], octets: &mut [u8]) -> Coded
 }
 
 // Block after block.
-fn run(c: Coder, samples: &[i16], octets: &mut [u8]) -> Coded
+fn run(c: Coder, samples: &[i16], octets: &mut [u8]) -> Accepted<Coder>
     requires octets_len_bound { length octets.old ≤ 8000 }
     requires samples_len { length samples.now ≡ 2 * length octets.old }
     requires c_value { good_coder c ≡ true }
     requires samples_value { all_in_range samples.now ≡ true }
-    ensures { Does (coded c samples.now) result octets.new }
+    ensures { Does (coded c samples.now) (answered c (Ok result)) octets.new }
 {
-    let mut s = c;
-    let mut limited: u32 = 0;
-    let mut at = 0;
-    while at < octets.len() {
-        let to = at + lesser(160, octets.len() - at);
-        let t = block(s, &samples[2 * at..2 * to], &mut octets[at..to]);
-        s = t.next;
-        limited = limited + t.limited;
-        at = to;
+    let mut next = c;
+    let mut limited = 0;
+    for at in (0..octets.len()).step_by(160) {
+        let to = octets.len().min(at + 160);
+        let done = block(next, &samples[2 * at..2 * to], &mut octets[at..to]);
+        next = done.next;
+        limited += done.limited;
     }
-    done(limited, s)
+    Accepted { limited, next }
 }
 
 // A coding call: 2n samples to n octets, n at most 8000. All samples are looked at before the first is coded.
-pub fn code(c: Coder, samples: &[i16], octets: &mut [u8]) -> Coded
-    ensures { Does (code_call c samples.now octets.old) result octets.new }
+pub fn code(c: Coder, samples: &[i16], octets: &mut [u8]) -> Result<Accepted<Coder>, Refusal>
+    ensures { Does (code_call c samples.now octets.old) (answered c result) octets.new }
 {
-    let unfit = misfit(samples.len(), octets.len());
-    let good = good_coder(c);
-    if unfit {
-        return refused(3, 0, c);
+    if misfit(samples.len(), octets.len()) {
+        return Err(Refusal::Length);
     }
-    if !good {
-        return refused(2, 0, c);
+    if !good_coder(c) {
+        return Err(Refusal::Record);
     }
     if !all_in_range(samples) {
-        return refused(4, first_bad(samples), c);
+        return Err(Refusal::Sample(first_bad(samples)));
     }
-    run(c, samples, octets)
+    Ok(run(c, samples, octets))
 }

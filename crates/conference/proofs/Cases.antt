@@ -8,7 +8,7 @@ use Rattle.laws.specs.Outcome.{Outcome}
 use Rattle.conference.specs.Tick.{unseated, uneven, any_above, good_ports, octets_to, desk_after}
 use Rattle.conference.specs.Tick.{tick_limited, not_ticked, ticked, tick_call, reset_desk}
 use Rattle.conference.specs.declared.Desk.{Desk}
-use Rattle.conference.specs.declared.Ticked.{Ticked}
+use Rattle.conference.specs.Answers.{Ticked}
 
 -- ---- what the tests say
 

@@ -9,8 +9,8 @@ use Rattle.g722.specs.declared.Coder.{Coder}
 use Rattle.g722.specs.declared.Decoder.{Decoder}
 use Rattle.conference.specs.Sums.{sums_of, mixed}
 use Rattle.conference.specs.Ports.{rls_from, rhs_from, decoder_from, octet_to, coder_to, each_port}
+use Rattle.conference.specs.Answers.{Ticked}
 use Rattle.conference.specs.declared.Desk.{Desk}
-use Rattle.conference.specs.declared.Ticked.{Ticked}
 
 -- ---- what is refused
 

@@ -1,6 +1,6 @@
 -- The turns of the two loops over lent memory, and what their sums need.
 -- Assumes nothing.
-use mathlib.Core.Path.{◌≡◌, sym, ◌∙◌}
+use mathlib.Core.Path.{◌≡◌, sym, ap, ◌∙◌}
 use mathlib.Core.List.{List, ◌++◌}
 use Prim.Native.Nat.{ℕ, zero, suc, ◌+◌, ◌*◌, ◌/◌, ◌%◌, ◌-◌, ◌^◌, ◌≤◌, ◌<◌}
 use native.Mathlib.Nat.{div-add-mod', mul-le-mul_left}
@@ -10,6 +10,7 @@ use lib.Seq.{drop-drop, drop-set-lt}
 use borrow.Author.Tests.{ne_eqb}
 use Rattle.laws.specs.Outcome.{Does}
 use Rattle.laws.specs.Turns.{drop_one, put_one, put_all}
+use Rattle.g722.specs.Answers.{Moved}
 use Rattle.g722.specs.Cue.{spelt, gathered, carrying, data_call}
 
 -- one octet carries its bits
@@ -59,11 +60,11 @@ module _ (k : ℕ) {b : ℕ} (e : b ≡ 2 ^ k) (o r : ℕ) where
   octet_carries f = rw (f, ← e) (omega (arith, div-add-mod' o b))
 
 -- a data call's outcome: with number 0 the new content, else the old
-module _ {n number : ℕ} (e : n ≡ number) (old new : List ℕ) where
-  pub done : {now : List ℕ} → n ≡ 0 → now ≡ new → Does (data_call number old new) (record { number = n; index = 0 }) now
+module _ {m : Moved} {number : ℕ} (e : m ≡ record { number = number; index = 0 }) (old new : List ℕ) where
+  pub done : {now : List ℕ} → m.number ≡ 0 → now ≡ new → Does (data_call number old new) m now
   unfolding data_call
-  done z f = record { answer = λ i. record { number = e i; index = 0 }; left = rw (sym e ∙ z) f }
+  done z f = record { answer = e; left = rw (sym (ap (λ (a : Moved). a.number) e) ∙ z) f }
 
-  pub refused : (n ≡ 0 → ⊥) → Does (data_call number old new) (record { number = n; index = 0 }) old
+  pub refused : (m.number ≡ 0 → ⊥) → Does (data_call number old new) m old
   unfolding data_call
-  refused h = record { answer = λ i. record { number = e i; index = 0 }; left = rw (← e, ne_eqb n 0 h) }
+  refused h = record { answer = e; left = rw (← ap (λ (a : Moved). a.number) e, ne_eqb m.number 0 h) }

@@ -3,10 +3,11 @@
 
 ghost use Rattle.std.specs.Prelude.{◌≡◌, ◌+◌, ◌*◌, ◌^◌, ◌≤◌, ◌<◌, length, take, drop, get_or};
 ghost use Rattle.laws.specs.Outcome.{Does};
+ghost use Rattle.g722.specs.Answers.{moved};
 ghost use Rattle.g722.specs.Cue.{bits_of, spelt, gathered, carrying, data_number, put_call, take_call};
 ghost use Rattle.cue.specs.Fills.{Fills};
 
-use g722::Moved;
+use g722::Refusal;
 
 // 2 to the power n.
 fn power(n: usize) -> u8
@@ -22,10 +23,7 @@ fn bit(xs: &[u8], k: usize, n: usize) -> u8
     requires { (0 < k) × (k ≤ 8) × (n < k * length xs.now) }
     ensures { (result ≡ get_or (bits_of k xs.now) n 0) × (result < 2) }
 {
-    let place = n % k;
-    let below = k - 1 - place;
-    let weight = power(below);
-    xs[n / k] / weight % 2
+    xs[n / k] / power(k - 1 - n % k) % 2
 }
 
 // The number that w of these bits spell, from bit n on.
@@ -33,11 +31,9 @@ fn spell(xs: &[u8], k: usize, n: usize, w: usize) -> u8
     requires { (0 < k) × (k ≤ 8) × (w ≤ 8) × (n + w ≤ k * length xs.now) × (n + w ≤ 16000) }
     ensures { (result ≡ spelt 0 (take w (drop n (bits_of k xs.now)))) × (result < 2 ^ w) }
 {
-    let mut value: u8 = 0;
-    let mut left = w;
-    while 0 < left {
-        value = value * 2 + bit(xs, k, n + (w - left));
-        left -= 1;
+    let mut value = 0;
+    for i in 0..w {
+        value = value * 2 + bit(xs, k, n + i);
     }
     value
 }
@@ -65,52 +61,36 @@ fn gather(octets: &[u8], bytes: &mut [u8], k: usize)
     }
 }
 
-// A data call's number. More bytes than octets never fill them: they are refused before 8 * bytes is taken, which then fits.
-fn data_number(mode: u8, octets: usize, bytes: usize) -> u8
-    ensures { result ≡ data_number mode octets bytes }
+// Whether data fills octets in a mode. More bytes than octets never fill them: they are refused before 8 * bytes is taken, which then fits.
+fn fits(mode: u8, octets: usize, bytes: usize) -> Result<(), Refusal>
+    ensures { moved result ≡ record { number = data_number mode octets bytes; index = 0 } }
 {
     if 3 < mode {
-        return 1;
+        return Err(Refusal::Mode);
     }
     if mode < 2 {
-        return 5;
+        return Err(Refusal::DataChannel);
     }
-    if 8000 < octets {
-        return 3;
+    if 8000 < octets || octets < bytes || 8 * bytes != (mode - 1) as usize * octets {
+        return Err(Refusal::Length);
     }
-    if octets < bytes {
-        return 3;
-    }
-    if 8 * bytes != (mode - 1) as usize * octets {
-        return 3;
-    }
-    0
+    Ok(())
 }
 
 // Puts data bytes into octets, where the mode and the lengths allow it.
-pub fn put(mode: u8, octets: &mut [u8], bytes: &[u8]) -> Moved
-    ensures { Does (put_call mode octets.old bytes.now) result octets.new }
+pub fn put(mode: u8, octets: &mut [u8], bytes: &[u8]) -> Result<(), Refusal>
+    ensures { Does (put_call mode octets.old bytes.now) (moved result) octets.new }
 {
-    let number = data_number(mode, octets.len(), bytes.len());
-    if number == 0 {
-        fill(octets, bytes, (mode - 1) as usize);
-    }
-    Moved {
-        number: number,
-        index: 0,
-    }
+    fits(mode, octets.len(), bytes.len())?;
+    fill(octets, bytes, (mode - 1) as usize);
+    Ok(())
 }
 
 // Takes data bytes out of octets, where they allow it.
-pub fn take(mode: u8, octets: &[u8], bytes: &mut [u8]) -> Moved
-    ensures { Does (take_call mode octets.now bytes.old) result bytes.new }
+pub fn take(mode: u8, octets: &[u8], bytes: &mut [u8]) -> Result<(), Refusal>
+    ensures { Does (take_call mode octets.now bytes.old) (moved result) bytes.new }
 {
-    let number = data_number(mode, octets.len(), bytes.len());
-    if number == 0 {
-        gather(octets, bytes, (mode - 1) as usize);
-    }
-    Moved {
-        number: number,
-        index: 0,
-    }
+    fits(mode, octets.len(), bytes.len())?;
+    gather(octets, bytes, (mode - 1) as usize);
+    Ok(())
 }

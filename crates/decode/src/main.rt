@@ -4,28 +4,57 @@
 
 ghost use Rattle.std.specs.Prelude.{◌≤◌, length};
 
-use g722::Decoder;
+use g722::{Decoder, Refusal};
 use pcm::decode_chunk;
+use refusal::Stop;
 use std::env::{Env, FillError};
-use std::io::{Print, Read, Stderr, Stdin, Stdout};
+use std::io::{Read, Write};
 
-// What a piece of the stream leaves: the decoder after it, and whether to read on.
-#[derive(Clone, Copy)]
-struct Onward {
-    next: Decoder,
-    more: bool,
+// Decodes a piece and writes its samples.
+fn send(out: &mut impl Write, d: Decoder, mode: u8, octets: &[u8]) -> Result<Decoder, Stop>
+    requires { length octets.now ≤ 8000 }
+{
+    let mut bytes = [0u8; 32000];
+    let bytes = &mut bytes[..4 * octets.len()];
+    let done = decode_chunk(d, mode, octets, bytes)?;
+    out.write_all(bytes).map_err(Stop::Write)?;
+    Ok(done.next)
 }
 
-// The mode that the one argument tells, or more than 255 where there is none.
-fn told(env: &impl Env) -> u64 {
+// Reads what has arrived and sends it: nothing waits for a longer piece. At the end of the input there is no next decoder.
+fn turn(
+    input: &mut impl Read,
+    out: &mut impl Write,
+    d: Decoder,
+    mode: u8,
+) -> Result<Option<Decoder>, Stop> {
+    let mut octets = [0u8; 8000];
+    match input.read(&mut octets).map_err(Stop::Read)? {
+        0 => Ok(None),
+        n => Ok(Some(send(out, d, mode, &octets[..n])?)),
+    }
+}
+
+// Piece after piece. A proved loop has to end, and nothing says that the input does: no run has so many pieces.
+fn run(input: &mut impl Read, out: &mut impl Write, mode: u8) -> Result<(), Stop> {
+    let mut d = decoder::reset();
+    for _ in 0..u64::MAX {
+        let Some(next) = turn(input, out, d, mode)? else {
+            break;
+        };
+        d = next;
+    }
+    Ok(())
+}
+
+// The mode that the one argument tells, if there is one argument and it is a number below 256.
+fn told(env: &impl Env) -> Option<u8> {
     if has_word(env, 2) {
-        return 256;
+        return None;
     }
     let mut word = [0u8; 10];
-    match env.arg(1, &mut word) {
-        Ok(n) => argument::number(&word[..n]),
-        Err(_) => 256,
-    }
+    let n = env.arg(1, &mut word).ok()?;
+    u8::try_from(argument::number(&word[..n])?).ok()
 }
 
 // Whether the program was started with a word of this number, its own name being word 0.
@@ -33,81 +62,16 @@ fn has_word(env: &impl Env, i: usize) -> bool {
     !matches!(env.arg(i, &mut []), Err(FillError::NotPresent))
 }
 
-// Decodes octets to bytes, and writes these.
-fn send_all(
-    out: &Stdout,
-    err: &Stderr,
-    d: Decoder,
-    told: u8,
-    octets: &[u8],
-    bytes: &mut [u8],
-) -> Onward {
-    let answer = decode_chunk(d, told, octets, bytes);
-    let next = answer.next;
-    if answer.number != 0 {
-        refusal::say(err, answer.number, 0);
-        return last(next);
-    }
-    if let Err(error) = out.write_all(bytes) {
-        refusal::fail(err, b"write", error);
-        return last(next);
-    }
-    Onward {
-        next: next,
-        more: true,
-    }
-}
-
-// After the last piece.
-fn last(d: Decoder) -> Onward {
-    Onward {
-        next: d,
-        more: false,
-    }
-}
-
-// Decodes a piece and writes its samples.
-fn send(out: &Stdout, err: &Stderr, d: Decoder, told: u8, octets: &[u8]) -> Onward
-    requires { length octets.now ≤ 8000 }
-{
-    let mut bytes = [0u8; 32000];
-    let n = octets.len();
-    send_all(out, err, d, told, octets, &mut bytes[..4 * n])
-}
-
-// Reads what has arrived and sends it: nothing waits for a longer piece.
-fn turn(input: &mut Stdin, out: &Stdout, err: &Stderr, d: Decoder, told: u8) -> Onward {
-    let mut octets = [0u8; 8000];
-    match input.read(&mut octets) {
-        Ok(0) => last(d),
-        Ok(n) => send(out, err, d, told, &octets[..n]),
-        Err(error) => {
-            refusal::fail(err, b"read", error);
-            last(d)
-        }
-    }
-}
-
-// Piece after piece. A proved loop has to end, and nothing says that the input does: no run has so many pieces.
-fn run(input: &mut Stdin, out: &Stdout, err: &Stderr, told: u8) {
-    let mut d = decoder::reset();
-    for _ in 0..u64::MAX {
-        let t = turn(input, out, err, d, told);
-        if !t.more {
-            break;
-        }
-        d = t.next;
-    }
-}
-
 fn main(rt: HostRuntime) {
-    let told = told(&rt);
-    if told < 4 {
-        run(&mut rt.stdin(), &rt.stdout(), &rt.stderr(), told as u8);
-        return;
-    }
-    if told < 256 {
-        refusal::say(&rt.stderr(), 1, 0);
+    match told(&rt) {
+        Some(mode @ 0..=3) => {
+            if let Err(stop) = run(&mut rt.stdin(), &mut rt.stdout(), mode) {
+                refusal::report(&rt.stderr(), stop);
+            }
+            return;
+        }
+        Some(_) => refusal::say(&rt.stderr(), Refusal::Mode.number(), 0),
+        None => {}
     }
     let _ = eprintln!(rt; "usage: decode MODE < octets > samples, where MODE is 0, 1, 2 or 3");
 }

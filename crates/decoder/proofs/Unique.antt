@@ -1,7 +1,8 @@
 -- The public functions of `decoder`, each by its own contract: it asks nothing, and leaves one answer and one content of lent memory.
 use mathlib.Core.Path.{refl}
 use base.Stored.{coded×, coded_list, coded_ℤ}
-use Rattle.laws.specs.One.{LeavesOne, equation, call}
+use Rattle.laws.specs.One.{LeavesOne, equation, seen_call}
+use Rattle.g722.proofs.Tells.{answered_tells}
 use Rattle.decoder.proofs as decoder
 use Rattle.decoder.specs.contracts as contracts
 
@@ -12,12 +13,17 @@ pub good_decoder : LeavesOne contracts.good_decoder.ended (λ M 𝓤. contracts.
 good_decoder = equation (λ κs a l m. refl) (λ M. decoder.good_decoder.Met.met)
 
 pub decode : LeavesOne contracts.decode.ended (λ M 𝓤. contracts.decode.clauses) decoder.decode.Symbol.name decoder.decode.Symbol.code
-decode = call (coded_list coded_ℤ) (λ κs a l m e i. (tt, (tt, (tt, (e i, tt))))) (λ M. decoder.decode.Met.met)
+decode =
+    seen_call (coded_list coded_ℤ) (λ κs a r s. answered_tells a.0 r s) (λ κs a l m e i. (tt, (tt, (tt, (e i, tt)))))
+    (λ M. decoder.decode.Met.met)
 
 pub hear : LeavesOne contracts.hear.ended (λ M 𝓤. contracts.hear.clauses) decoder.hear.Symbol.name decoder.hear.Symbol.code
 hear =
-    call (coded× (coded_list coded_ℤ) (coded_list coded_ℤ)) (λ κs a l m e i. (tt, (tt, (tt, ((e i).0, ((e i).1, tt))))))
+    seen_call (coded× (coded_list coded_ℤ) (coded_list coded_ℤ)) (λ κs a r s. answered_tells a.0 r s)
+    (λ κs a l m e i. (tt, (tt, (tt, ((e i).0, ((e i).1, tt))))))
     (λ M. decoder.hear.Met.met)
 
 pub join : LeavesOne contracts.join.ended (λ M 𝓤. contracts.join.clauses) decoder.join.Symbol.name decoder.join.Symbol.code
-join = call (coded_list coded_ℤ) (λ κs a l m e i. (tt, (tt, (tt, (e i, tt))))) (λ M. decoder.join.Met.met)
+join =
+    seen_call (coded_list coded_ℤ) (λ κs a r s. answered_tells a.0 r s) (λ κs a l m e i. (tt, (tt, (tt, (e i, tt)))))
+    (λ M. decoder.join.Met.met)

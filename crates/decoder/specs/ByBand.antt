@@ -13,7 +13,7 @@ use Rattle.g722.specs.Decoding.{yl_of, yh_of}
 use Rattle.g722.specs.Steps.{signals_of, band_after, low_next, high_next, yls_of, yhs_of, heard_after, heard}
 use Rattle.g722.specs.declared.Band.{Band}
 use Rattle.g722.specs.declared.Decoder.{Decoder}
-use Rattle.g722.specs.declared.Decoded.{Decoded}
+use Rattle.g722.specs.Answers.{Decoded}
 use Rattle.sweep.specs.Block.{signal_of, heard_next, heard_run}
 
 -- a machine's run is a band's

@@ -1,28 +1,24 @@
 // The first step: octets to the low and high signals that are heard. It moves both bands, and leaves the past pairs.
-ghost use Rattle.std.specs.Prelude.{◌≡◌, true, map, ◌≤◌, length};
+ghost use Rattle.std.specs.Prelude.{◌≡◌, map, ◌≤◌, length};
 ghost use Rattle.laws.specs.Outcome.{Does};
+ghost use Rattle.facts.specs.Blocks.{done};
+ghost use Rattle.g722.specs.Answers.{answered};
 ghost use Rattle.g722.specs.Arithmetic.{limit, overloads};
-ghost use Rattle.g722.specs.Records.{good_decoder};
 ghost use Rattle.g722.specs.Steps.{unpaired, heard, hear_call};
 
-use crate::{done, good_decoder, refused};
-use arith::{limit, one, wide};
-use bounds::lesser;
-use g722::{Decoded, Decoder};
+use crate::good_decoder;
+use crate::kept::{Kept, given};
+use arith::limit;
+use g722::{Accepted, Decoder, Refusal};
 use quant::in_force;
 use sweep::hear_band;
 
 // Whether lent lengths do not fit: n signals of each band to n octets, n at most 8000.
+#[tactic(auto, unfolding(g722::specs::Steps::unpaired))]
 fn unpaired(octets: usize, low: usize, high: usize) -> bool
     ensures { result ≡ unpaired octets low high }
 {
-    if 8000 < octets {
-        return true;
-    }
-    if low != octets {
-        return true;
-    }
-    high != octets
+    octets > 8000 || low != octets || high != octets
 }
 
 // Limits each signal where it stands, and counts those that it changes.
@@ -30,12 +26,11 @@ fn limit_all(x: &mut [i16]) -> u32
     requires { length x.old ≤ 8000 }
     ensures { (result ≡ overloads x.old) × (x.new ≡ map limit x.old) }
 {
-    let mut limited: u32 = 0;
-    for i in 0..x.len() {
-        let l = limit(wide(x[i]));
-        let value = l.value;
-        x[i] = value;
-        limited = limited + one(l.changed);
+    let mut limited = 0;
+    for signal in x {
+        let kept = limit(i32::from(*signal));
+        *signal = kept.value;
+        limited += u32::from(kept.changed);
     }
     limited
 }
@@ -43,73 +38,74 @@ fn limit_all(x: &mut [i16]) -> u32
 // Octet after octet of a block, in the mode in force.
 pub(crate) fn hear_block(
     mode: u8,
-    d: Decoder,
+    d: Kept,
     octets: &[u8],
     low: &mut [i16],
     high: &mut [i16],
-) -> Decoded
+) -> Accepted<Kept>
     requires octets_len_bound { length octets.now ≤ 160 }
     requires low_len { length low.old ≡ length octets.now }
     requires high_len { length high.old ≡ length octets.now }
-    requires d_value { good_decoder d ≡ true }
-    ensures { Does (heard mode d octets.now) result (low.new, high.new) }
+    ensures { Does (heard mode d.decoder octets.now) (done result.limited result.next.decoder) (low.new, high.new) }
 {
-    let low_band = d.low;
-    let high_band = d.high;
-    let past = d.past;
-    let l = hear_band(false, mode, low_band, octets, low);
-    let h = hear_band(true, mode, high_band, octets, high);
-    let limited = limit_all(low) + limit_all(high);
-    let next = Decoder {
-        low: l,
-        high: h,
-        past: past,
-    };
-    done(limited, next)
+    let low_band = hear_band(false, mode, d.decoder.low, octets, low);
+    let high_band = hear_band(true, mode, d.decoder.high, octets, high);
+    Accepted {
+        limited: limit_all(low) + limit_all(high),
+        next: Kept {
+            decoder: Decoder {
+                low: low_band,
+                high: high_band,
+                past: d.decoder.past,
+            },
+        },
+    }
 }
 
 // Block after block.
-fn hear_all(mode: u8, d: Decoder, octets: &[u8], low: &mut [i16], high: &mut [i16]) -> Decoded
+fn hear_all(mode: u8, d: Kept, octets: &[u8], low: &mut [i16], high: &mut [i16]) -> Accepted<Kept>
     requires octets_len_bound { length octets.now ≤ 8000 }
     requires low_len { length low.old ≡ length octets.now }
     requires high_len { length high.old ≡ length octets.now }
-    requires d_value { good_decoder d ≡ true }
-    ensures { Does (heard mode d octets.now) result (low.new, high.new) }
+    ensures { Does (heard mode d.decoder octets.now) (done result.limited result.next.decoder) (low.new, high.new) }
 {
-    let mut s = d;
-    let mut limited: u32 = 0;
-    let mut at = 0;
-    while at < octets.len() {
-        let to = at + lesser(160, octets.len() - at);
-        let t = hear_block(
+    let mut next = d;
+    let mut limited = 0;
+    for at in (0..octets.len()).step_by(160) {
+        let to = octets.len().min(at + 160);
+        let done = hear_block(
             mode,
-            s,
+            next,
             &octets[at..to],
             &mut low[at..to],
             &mut high[at..to],
         );
-        s = t.next;
-        limited = limited + t.limited;
-        at = to;
+        next = done.next;
+        limited += done.limited;
     }
-    done(limited, s)
+    Accepted { limited, next }
 }
 
 // A call of the first step: n octets to n low and n high signals, n at most 8000, in a told mode, 0 being no indication.
-pub fn hear(d: Decoder, told: u8, octets: &[u8], low: &mut [i16], high: &mut [i16]) -> Decoded
-    ensures { Does (hear_call d told octets.now low.old high.old) result
+#[tactic(auto, unfolding(g722::specs::Steps::hear_call, g722::specs::Steps::not_heard, g722::specs::Steps::unpaired))]
+pub fn hear(
+    d: Decoder,
+    told: u8,
+    octets: &[u8],
+    low: &mut [i16],
+    high: &mut [i16],
+) -> Result<Accepted<Decoder>, Refusal>
+    ensures { Does (hear_call d told octets.now low.old high.old) (answered d result)
         (low.new, high.new) }
 {
-    let unfit = unpaired(octets.len(), low.len(), high.len());
-    let good = good_decoder(d);
-    if 3 < told {
-        return refused(1, 0, d);
+    if told > 3 {
+        return Err(Refusal::Mode);
     }
-    if unfit {
-        return refused(3, 0, d);
+    if unpaired(octets.len(), low.len(), high.len()) {
+        return Err(Refusal::Length);
     }
-    if !good {
-        return refused(2, 0, d);
+    if !good_decoder(d) {
+        return Err(Refusal::Record);
     }
-    hear_all(in_force(told), d, octets, low, high)
+    Ok(given(hear_all(in_force(told), Kept { decoder: d }, octets, low, high)))
 }

@@ -1,277 +1,156 @@
 // A file to read for each port, and a new file to write for each.
-ghost use Rattle.std.specs.Prelude.{◌≡◌, ◌+◌, ◌≤◌, ◌<◌, IfOk, length, vec_len};
+ghost use Rattle.std.specs.Prelude.{◌≤◌, ◌<◌, IfOk};
 
-use crate::ticks::{Onward, last, mix, say_left_out, start, with, written};
-use conference::Desk;
+use crate::Misuse;
+use crate::ticks::{Form, Mixing};
+use arrayvec::ArrayVec;
+use refusal::Stop;
 use std::env::Env;
 use std::fs::File;
 use std::io;
-use std::io::{ErrorKind, Read, Stderr};
+use std::io::{ErrorKind, Read, Write};
 use std::rt::Files;
 
-// How many octets a turn has of the port with the fewest and of the port with the most, or 1001 where a read failed.
+// An open file to read and one to write for each port.
+#[derive(Drop)]
+struct Ports {
+    inputs: Vec<File>,
+    outputs: Vec<File>,
+}
+
+// How many octets a turn has of the port with the fewest and of the port with the most.
 #[derive(Clone, Copy)]
 struct Columns {
     least: usize,
     most: usize,
 }
 
-// Opens a file to read, or makes a new one to write. A name that is taken is not opened: no recording is overwritten.
-// A name has to be UTF-8.
-fn opened(files: &impl Files<File = File>, name: &[u8], new: bool) -> io::Result<File> {
-    match str::from_utf8(name) {
-        Ok(name) if new => File::options()
-            .write(true)
-            .create_new(true)
-            .open(files, name),
-        Ok(name) => File::open(files, name),
-        Err(_) => Err(io::Error::from(ErrorKind::InvalidFilename)),
-    }
-}
-
-// Opens a file and puts it behind the others.
-fn add(
-    rt: &impl Files<File = File>,
-    name: &[u8],
-    new: bool,
+// Opens the file that argument i names and puts it behind the others. A name has to be UTF-8.
+fn add<R: Env, F: Fn(&str) -> io::Result<File>>(
+    rt: &R,
+    i: usize,
+    opened: &F,
     files: &mut Vec<File>,
 ) -> io::Result<()>
-    ensures { vec_len files.new ≤ vec_len files.old + 1 }
+    requires { F.IsAlwaysCallable opened.now }
 {
-    let file = opened(rt, name, new)?;
-    files.push(file)?;
+    let mut name = [0u8; 4096];
+    let n = rt.arg(i, &mut name).unwrap_or(0);
+    let name = str::from_utf8(&name[..n]).map_err(|_| ErrorKind::InvalidFilename)?;
+    files.push(opened(name)?)?;
     Ok(())
 }
 
-// Opens the file that argument i names, or says why it cannot, and answers whether that was done.
-fn open<R: Files<File = File> + Env>(
+// Opens a file for each port, the first of them that of argument `first`.
+fn open_all<R: Env + AllocGlobal, F: Fn(&str) -> io::Result<File>>(
     rt: &R,
-    err: &Stderr,
-    i: usize,
-    new: bool,
-    files: &mut Vec<File>,
-) -> bool
-    ensures { vec_len files.new ≤ vec_len files.old + 1 }
-{
-    let mut name = [0u8; 4096];
-    let n = match rt.arg(i, &mut name) {
-        Ok(n) => n,
-        Err(_) => 0,
-    };
-    if let Err(error) = add(rt, &name[..n], new, files) {
-        refusal::fail(err, &name[..n], error);
-        return false;
-    }
-    true
-}
-
-// Opens a file for each port, the first of them that of argument `first`, and answers whether that was done.
-fn open_all<R: Files<File = File> + Env>(
-    rt: &R,
-    err: &Stderr,
     first: usize,
-    new: bool,
     ports: usize,
-    files: &mut Vec<File>,
-) -> bool
+    opened: F,
+) -> Result<Vec<File>, Misuse>
     requires first_bound { first ≤ 1000 }
     requires ports_bound { ports ≤ 8 }
-    requires files_none { vec_len files.old ≡ 0 }
-    ensures { vec_len files.new ≤ ports }
+    requires callable { F.IsAlwaysCallable opened }
 {
-    for i in 0..ports {
-        if !open(rt, err, first + i, new, files) {
-            return false;
+    let mut files = Vec::new(rt.alloc());
+    for i in first..first + ports {
+        if let Err(error) = add(rt, i, &opened, &mut files) {
+            return Err(Misuse::Unopened(i, error));
         }
     }
-    true
+    Ok(files)
+}
+
+// Reads so many bytes, or what is left of a file.
+fn read_full<const N: usize>(input: impl Read + Drop) -> io::Result<ArrayVec<u8, N>> {
+    let mut bytes = ArrayVec::new();
+    io::copy(&mut input.take(N as u64), &mut bytes)?;
+    Ok(bytes)
 }
 
 // Puts a port's octets at its places in the ticks.
 fn weave(column: &[u8], port: usize, ports: usize, octets: &mut [u8])
-    requires port_lt_ports { port < ports }
-    requires ports_bound { ports ≤ 8 }
-    requires column_len_bound { length column.now ≤ 1000 }
-    requires octets_len { length octets.old ≡ 8000 }
+    requires { 0 < ports }
 {
-    for i in 0..column.len() {
-        octets[i * ports + port] = column[i];
+    for (place, octet) in octets.iter_mut().skip(port).step_by(ports).zip(column) {
+        *place = *octet;
     }
 }
 
 // Takes a port's octets out of the ticks.
-fn unweave(octets: &[u8; 8000], port: usize, ports: usize, column: &mut [u8])
-    requires port_lt_ports { port < ports }
-    requires ports_bound { ports ≤ 8 }
-    requires column_len_bound { length column.old ≤ 1000 }
+fn unweave(octets: &[u8], port: usize, ports: usize, column: &mut [u8])
+    requires { 0 < ports }
 {
-    for i in 0..column.len() {
-        column[i] = octets[i * ports + port];
+    for (place, octet) in column
+        .iter_mut()
+        .zip(octets.iter().skip(port).step_by(ports))
+    {
+        *place = *octet;
     }
 }
 
-// Reads until the bytes are full or the file ends, and answers how many there are.
-fn read_full(mut file: &File, bytes: &mut [u8]) -> io::Result<usize>
-    ensures { IfOk result (λ n. n ≤ length bytes.new) }
+// Reads up to 1000 octets of each port, and puts them at its places in the ticks.
+fn read_all(files: &[File], ports: usize, octets: &mut [u8]) -> Result<Columns, Stop>
+    requires { 0 < ports }
+    ensures { IfOk result (λ columns. columns.least ≤ 1000) }
 {
-    let mut n = 0;
-    while n < bytes.len() {
-        let more = file.read(&mut bytes[n..])?;
-        if more == 0 {
-            break;
-        }
-        n += more;
+    let mut columns = Columns {
+        least: 1000,
+        most: 0,
+    };
+    for (port, file) in files.iter().enumerate() {
+        let column = read_full::<1000>(file).map_err(Stop::Read)?;
+        weave(&column, port, ports, octets);
+        columns.least = columns.least.min(column.len());
+        columns.most = columns.most.max(column.len());
     }
-    Ok(n)
+    Ok(columns)
 }
 
-// Reads up to 1000 octets of a port and answers how many, or 1001 where that failed.
-fn read_column(file: &File, err: &Stderr, port: usize, ports: usize, octets: &mut [u8]) -> usize
-    requires port_lt_ports { port < ports }
-    requires ports_bound { ports ≤ 8 }
-    requires octets_len { length octets.old ≡ 8000 }
-{
-    let mut column = [0u8; 1000];
-    match read_full(file, &mut column) {
-        Ok(n) => {
-            weave(&column[..n], port, ports, octets);
-            n
-        }
-        Err(error) => {
-            refusal::fail(err, b"read", error);
-            1001
-        }
-    }
-}
-
-// Reads up to 1000 octets of each port.
-fn read_all(files: &[File], err: &Stderr, octets: &mut [u8]) -> Columns
-    requires files_len_bound { length files.now ≤ 8 }
-    requires octets_len { length octets.old ≡ 8000 }
-    ensures { result.least ≤ 1000 }
-{
-    let mut least: usize = 1000;
-    let mut most: usize = 0;
-    let mut i: usize = 0;
-    while i < files.len() && most <= 1000 {
-        let n = read_column(&files[i], err, i, files.len(), octets);
-        if n < least {
-            least = n;
-        }
-        if most < n {
-            most = n;
-        }
-        i += 1;
-    }
-    Columns {
-        least: least,
-        most: most,
-    }
-}
-
-// Writes the first n octets of a port.
-fn write_column(
-    mut file: &File,
-    err: &Stderr,
-    octets: &[u8; 8000],
-    port: usize,
-    ports: usize,
-    n: usize,
-) -> bool
-    requires port_lt_ports { port < ports }
-    requires ports_bound { ports ≤ 8 }
+// Takes the first octets of each port out of the ticks, as many as `n`, and writes them.
+fn write_all(files: &[File], ports: usize, octets: &[u8], n: usize) -> Result<(), Stop>
+    requires ports_nonzero { 0 < ports }
     requires n_bound { n ≤ 1000 }
 {
-    let mut column = [0u8; 1000];
-    unweave(octets, port, ports, &mut column[..n]);
-    written(&mut file, err, &column[..n])
+    for (port, mut file) in files.iter().enumerate() {
+        let mut column = [0u8; 1000];
+        let column = &mut column[..n];
+        unweave(octets, port, ports, column);
+        file.write_all(column).map_err(Stop::Write)?;
+    }
+    Ok(())
 }
 
-// Writes the first n octets of each port, and answers whether that was done.
-fn write_all(files: &[File], err: &Stderr, octets: &[u8; 8000], n: usize) -> bool
-    requires files_len_bound { length files.now ≤ 8 }
-    requires n_bound { n ≤ 1000 }
-{
-    for i in 0..files.len() {
-        if !write_column(&files[i], err, octets, i, files.len(), n) {
-            return false;
+impl Form for Ports {
+    // It reads 1000 ticks, or what is left. Where one file has ended before another, the rest of that is left out.
+    fn turn(&mut self, mixing: &mut Mixing) -> Result<bool, Stop> {
+        let ports = mixing.ports();
+        let mut octets = [0u8; 8000];
+        let Columns { least, most } = read_all(&self.inputs, ports, &mut octets)?;
+        let octets = &octets[..least * ports];
+        let mut room = [0u8; 8000];
+        let room = &mut room[..octets.len()];
+        mixing.mix(octets, room)?;
+        write_all(&self.outputs, ports, room, least)?;
+        mixing.show_lamp();
+        if least < most {
+            return Err(Stop::LeftOut("tick"));
         }
-    }
-    true
-}
-
-// Mixes n ticks and writes each port's octets, and shows the lamp.
-fn send(files: &[File], err: &Stderr, desk: Desk, modes: &[u8], octets: &[u8], n: usize) -> Onward
-    requires modes_nonzero { 0 < length modes.now }
-    requires octets_len_bound { length octets.now ≤ 8000 }
-    requires files_len_bound { length files.now ≤ 8 }
-    requires n_bound { n ≤ 1000 }
-{
-    let mut room = [0u8; 8000];
-    let all = octets.len();
-    let t = mix(err, desk, modes, octets, &mut room[..all]);
-    let more = t.more && write_all(files, err, &room, n);
-    refusal::overload(err, t.limited);
-    with(t, more)
-}
-
-// Whether the files may go on. Where one has ended before another, the rest of that is left out.
-fn go_on(err: &Stderr, columns: Columns) -> bool {
-    if columns.least < columns.most {
-        say_left_out(err);
-    }
-    columns.least == 1000
-}
-
-// Reads 1000 ticks, or what is left, and sends them.
-fn turn(inputs: &[File], outputs: &[File], err: &Stderr, desk: Desk, modes: &[u8]) -> Onward
-    requires modes_nonzero { 0 < length modes.now }
-    requires modes_len_bound { length modes.now ≤ 8 }
-    requires inputs_len_bound { length inputs.now ≤ 8 }
-    requires outputs_len_bound { length outputs.now ≤ 8 }
-{
-    let mut octets = [0u8; 8000];
-    let columns = read_all(inputs, err, &mut octets);
-    if 1000 < columns.most {
-        return last(desk);
-    }
-    let n = columns.least;
-    let all = n * modes.len();
-    let t = send(outputs, err, desk, modes, &octets[..all], n);
-    let more = t.more && go_on(err, columns);
-    with(t, more)
-}
-
-// Turn after turn. A proved loop has to end, and nothing says that the input does: no run has so many turns.
-fn mix_all(inputs: &[File], outputs: &[File], err: &Stderr, modes: &[u8])
-    requires modes_nonzero { 0 < length modes.now }
-    requires modes_len_bound { length modes.now ≤ 8 }
-    requires inputs_len_bound { length inputs.now ≤ 8 }
-    requires outputs_len_bound { length outputs.now ≤ 8 }
-{
-    let mut desk = start(modes);
-    for _ in 0..u64::MAX {
-        let t = turn(inputs, outputs, err, desk, modes);
-        if !t.more {
-            break;
-        }
-        desk = t.next;
+        Ok(least == 1000)
     }
 }
 
-// Runs with the files that the arguments name. No output is made before every input is open.
-pub(crate) fn run<R: Files<File = File> + Env + AllocGlobal>(rt: &R, err: &Stderr, modes: &[u8])
-    requires modes_nonzero { 0 < length modes.now }
-    requires modes_len_bound { length modes.now ≤ 8 }
-{
-    let n = modes.len();
-    let mut inputs = Vec::new(rt.alloc());
-    let mut outputs = Vec::new(rt.alloc());
-    if !open_all(rt, err, 2 + n, false, n, &mut inputs) {
-        return;
-    }
-    if !open_all(rt, err, 2 + 2 * n, true, n, &mut outputs) {
-        return;
-    }
-    mix_all(&inputs, &outputs, err, modes);
+// Runs with the files that the arguments name. No output is made before every input is open. A name that is taken is not opened to
+// write: no recording is overwritten.
+pub(crate) fn run<R: Files<File = File> + Env + AllocGlobal>(
+    rt: &R,
+    mixing: &mut Mixing,
+) -> Result<(), Misuse> {
+    let ports = mixing.ports();
+    let inputs = open_all(rt, 2 + ports, ports, |name| File::open(rt, name))?;
+    let outputs = open_all(rt, 2 + 2 * ports, ports, |name| {
+        File::options().write(true).create_new(true).open(rt, name)
+    })?;
+    mixing.run(&mut Ports { inputs, outputs });
+    Ok(())
 }

@@ -7,52 +7,66 @@ mod files;
 mod stream;
 mod ticks;
 
-ghost use Rattle.std.specs.Prelude.{◌≤◌, ◌<◌, length};
+ghost use Rattle.std.specs.Prelude.{◌≡◌, ◌≤◌, ◌<◌, IfOk};
+ghost use Rattle.arrayvec.specs.ArrayVec.{array_vec_len};
 
+use arrayvec::ArrayVec;
+use conference::Desk;
+use g722::Refusal;
 use std::env::{Env, FillError};
 use std::fs::File;
-use std::io::{Stderr, Stdin, Stdout};
+use std::io;
+use std::io::Stderr;
 use std::rt::Files;
+use stream::Streams;
+use ticks::Mixing;
 
-// The number that argument i gives, or 2^32 where it gives none.
-fn told(env: &impl Env, i: usize) -> u64 {
+// Why the arguments do not serve.
+#[derive(Clone, Copy)]
+enum Misuse {
+    // They are those of no form.
+    Unfit,
+    // A number in them is refused.
+    Refused(Refusal),
+    // The file that one names, the argument of this number, is not opened.
+    Unopened(usize, io::Error),
+}
+
+// The number below 256 that argument i gives.
+fn told(env: &impl Env, i: usize) -> Result<u8, Misuse> {
     let mut word = [0u8; 10];
-    match env.arg(i, &mut word) {
-        Ok(n) => argument::number(&word[..n]),
-        Err(_) => 4294967296,
-    }
+    env.arg(i, &mut word)
+        .ok()
+        .and_then(|n| argument::number(&word[..n]))
+        .and_then(|number| u8::try_from(number).ok())
+        .ok_or(Misuse::Unfit)
 }
 
-// How many ports the first argument asks for, or 0 where it gives no number or there is no desk of so many.
-fn ports(env: &impl Env, err: &Stderr) -> usize
-    ensures { result ≤ 8 }
+// The desk of as many ports as the first argument asks for.
+fn desk(env: &impl Env) -> Result<Desk, Misuse>
+    ensures { IfOk result (λ desk. (0 < desk.ports) × (desk.ports ≤ 8)) }
 {
-    let n = told(env, 1);
-    if 255 < n {
-        return 0;
+    let ports = told(env, 1)?;
+    match mixer::reset(ports) {
+        Ok(desk) => Ok(desk),
+        Err(refusal) => Err(Misuse::Refused(refusal)),
     }
-    let answer = mixer::reset(n as u8);
-    if answer.number != 0 {
-        refusal::say(err, answer.number, 0);
-        return 0;
-    }
-    n as usize
 }
 
-// Takes the modes from the arguments, and answers whether each is one. A number above 3 is refused.
-fn take_modes(env: &impl Env, err: &Stderr, modes: &mut [u8]) -> bool {
-    for i in 0..modes.len() {
-        let mode = told(env, 2 + i);
-        if 255 < mode {
-            return false;
-        }
+// The modes of so many ports. A number above 3 is refused.
+fn modes(env: &impl Env, ports: u8) -> Result<ArrayVec<u8, 8>, Misuse>
+    requires { ports ≤ 8 }
+    ensures { IfOk result (λ modes. array_vec_len modes ≡ ports) }
+{
+    let mut modes = ArrayVec::new();
+    for i in 0..ports {
+        let mode = told(env, 2 + i as usize)?;
         if 3 < mode {
-            refusal::say(err, 1, 0);
-            return false;
+            return Err(Misuse::Refused(Refusal::Mode));
         }
-        modes[i] = mode as u8;
+        modes.push(mode);
     }
-    true
+    Ok(modes)
 }
 
 // Whether the program was started with a word of this number, its own name being word 0.
@@ -67,52 +81,42 @@ fn has_last_word(env: &impl Env, i: usize) -> bool
     has_word(env, i) && !has_word(env, i + 1)
 }
 
-// Runs the form that the number of words tells, with room for the modes, and answers whether the arguments are those of one.
-fn run_form<R: Files<File = File> + Env + AllocGlobal>(
-    rt: &R,
-    input: &mut Stdin,
-    out: &mut Stdout,
-    err: &Stderr,
-    modes: &mut [u8],
-) -> bool
-    requires modes_nonzero { 0 < length modes.old }
-    requires modes_len_bound { length modes.old ≤ 8 }
-{
-    let n = modes.len();
-    let by_files = has_last_word(rt, 1 + 3 * n);
-    if !by_files && !has_last_word(rt, 1 + n) {
-        return false;
+// Runs the form that the number of words tells.
+fn run(rt: &HostRuntime) -> Result<(), Misuse> {
+    let desk = desk(rt)?;
+    let ports = desk.ports as usize;
+    let by_files = has_last_word(rt, 1 + 3 * ports);
+    if !by_files && !has_last_word(rt, 1 + ports) {
+        return Err(Misuse::Unfit);
     }
-    if !take_modes(rt, err, modes) {
-        return false;
-    }
+    let mut mixing = Mixing::new(desk, modes(rt, desk.ports)?, rt.stderr());
     if by_files {
-        files::run(rt, err, modes);
-    } else {
-        stream::run(input, out, err, modes);
+        return files::run(rt, &mut mixing);
     }
-    true
+    let mut streams = Streams {
+        input: rt.stdin(),
+        out: rt.stdout(),
+    };
+    mixing.run(&mut streams);
+    Ok(())
 }
 
-// Runs, and answers whether the arguments are those of a form.
-fn run<R: Files<File = File> + Env + AllocGlobal>(
-    rt: &R,
-    input: &mut Stdin,
-    out: &mut Stdout,
-    err: &Stderr,
-) -> bool {
-    let n = ports(rt, err);
-    if n == 0 {
-        return false;
-    }
-    let mut modes = [0u8; 8];
-    run_form(rt, input, out, err, &mut modes[..n])
+// Says that the file that argument i names is not opened.
+fn say_unopened(env: &impl Env, err: &Stderr, i: usize, error: io::Error) {
+    let mut name = [0u8; 4096];
+    let n = env.arg(i, &mut name).unwrap_or(0);
+    refusal::fail(err, &name[..n], error);
 }
 
 fn main(rt: HostRuntime) {
-    if !run(&rt, &mut rt.stdin(), &mut rt.stdout(), &rt.stderr()) {
-        let _ = eprintln!(rt;
-            "usage: desk PORTS MODE.. < octets > octets, or desk PORTS MODE.. IN.. OUT.., where PORTS is 2 to 8 and a MODE 0, 1, 2 or 3"
-        );
+    let err = rt.stderr();
+    match run(&rt) {
+        Ok(()) => return,
+        Err(Misuse::Unopened(i, error)) => return say_unopened(&rt, &err, i, error),
+        Err(Misuse::Refused(refusal)) => refusal::say(&err, refusal.number(), 0),
+        Err(Misuse::Unfit) => {}
     }
+    let _ = eprintln!(rt;
+        "usage: desk PORTS MODE.. < octets > octets, or desk PORTS MODE.. IN.. OUT.., where PORTS is 2 to 8 and a MODE 0, 1, 2 or 3"
+    );
 }

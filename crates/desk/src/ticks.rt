@@ -1,86 +1,77 @@
-// What both forms share: ticks that are mixed, and what is said where octets cannot be read, written or mixed.
-ghost use Rattle.std.specs.Prelude.{◌≡◌, ◌≤◌, ◌<◌, length};
+// What both forms share: a desk in use, tick after tick and turn after turn.
+ghost use Rattle.std.specs.Prelude.{◌≤◌, ◌<◌};
+ghost use Rattle.arrayvec.specs.ArrayVec.{array_vec_len};
 
+use arrayvec::ArrayVec;
 use conference::Desk;
-use std::io::{Stderr, Write};
+use refusal::Stop;
+use std::io::Stderr;
 
-// What some ticks leave: the desk after them, how many of their sums were limited, and whether to go on.
-#[derive(Clone, Copy)]
-pub(crate) struct Onward {
-    pub(crate) next: Desk,
-    pub(crate) limited: u64,
-    pub(crate) more: bool,
+// A desk in use, with the mode of each port, how many sums were limited since the lamp was shown, and where that is said.
+#[derive(Drop)]
+pub(crate) struct Mixing {
+    desk: Desk,
+    modes: ArrayVec<u8, 8>,
+    limited: u64,
+    err: Stderr,
+    ghost seated: { 0 < array_vec_len modes },
 }
 
-// The desk before the first tick.
-pub(crate) fn start(modes: &[u8]) -> Desk
-    requires { length modes.now ≤ 8 }
-{
-    let answer = mixer::reset(modes.len() as u8);
-    answer.next
-}
-
-// After the last tick.
-pub(crate) fn last(desk: Desk) -> Onward {
-    Onward {
-        next: desk,
-        limited: 0,
-        more: false,
-    }
-}
-
-// The same desk and count, and whether to go on.
-pub(crate) fn with(t: Onward, more: bool) -> Onward {
-    let next = t.next;
-    Onward {
-        next: next,
-        limited: t.limited,
-        more: more,
-    }
-}
-
-// Mixes tick after tick, each an octet a port, and counts. A tick that is refused is said, and is the last.
-pub(crate) fn mix(err: &Stderr, desk: Desk, modes: &[u8], octets: &[u8], room: &mut [u8]) -> Onward
-    requires modes_nonzero { 0 < length modes.now }
-    requires octets_len_bound { length octets.now ≤ 8000 }
-    requires room_len { length room.old ≡ length octets.now }
-{
-    let n = modes.len();
-    let mut d = desk;
-    let mut limited: u64 = 0;
-    let mut at: usize = 0;
-    while at + n <= octets.len() {
-        let t = mixer::tick(d, modes, &octets[at..at + n], &mut room[at..at + n]);
-        d = t.next;
-        if t.number != 0 {
-            refusal::say(err, t.number, 0);
-            return Onward {
-                next: d,
-                limited: limited,
-                more: false,
-            };
+impl Mixing {
+    // Before the first tick.
+    pub(crate) fn new(desk: Desk, modes: ArrayVec<u8, 8>, err: Stderr) -> Self
+        requires { 0 < array_vec_len modes }
+    {
+        Mixing {
+            desk,
+            modes,
+            limited: 0,
+            err,
         }
-        limited += t.limited as u64;
-        at += n;
     }
-    Onward {
-        next: d,
-        limited: limited,
-        more: true,
+
+    pub(crate) fn ports(&self) -> usize
+        ensures some { 0 < result }
+        ensures most { result ≤ 8 }
+    {
+        self.modes.len()
+    }
+
+    // Mixes tick after tick, each an octet a port. A tick that is refused is the last.
+    pub(crate) fn mix(&mut self, octets: &[u8], room: &mut [u8]) -> Result<(), Stop> {
+        let ports = self.ports();
+        for (tick, sent) in octets.chunks_exact(ports).zip(room.chunks_exact_mut(ports)) {
+            let done = mixer::tick(self.desk, &self.modes, tick, sent)?;
+            self.desk = done.next;
+            self.limited = self.limited.saturating_add(u64::from(done.limited));
+        }
+        Ok(())
+    }
+
+    // Shows the lamp, if any sums were limited.
+    pub(crate) fn show_lamp(&mut self) {
+        refusal::overload(&self.err, self.limited);
+        self.limited = 0;
+    }
+
+    // Turn after turn, as long as one says that the next follows. Where a turn stops, that is said before its lamp is shown.
+    // A proved loop has to end, and nothing says that the input does: no run has so many turns.
+    pub(crate) fn run(&mut self, form: &mut impl Form) {
+        for _ in 0..u64::MAX {
+            let turned = form.turn(self);
+            if let Err(stop) = turned {
+                refusal::report(&self.err, stop);
+            }
+            self.show_lamp();
+            if !matches!(turned, Ok(true)) {
+                break;
+            }
+        }
     }
 }
 
-// Writes octets, and says so where they cannot be written.
-pub(crate) fn written(out: &mut impl Write, err: &Stderr, octets: &[u8]) -> bool {
-    if let Err(error) = out.write_all(octets) {
-        refusal::fail(err, b"write", error);
-        return false;
-    }
-    true
-}
-
-// The input has more octets than its whole ticks.
-pub(crate) fn say_left_out(err: &Stderr) {
-    refusal::say(err, 3, 0);
-    let _ = eprintln!(err; "left out: what follows the last whole tick");
+// Where ticks come from and go to.
+pub(crate) trait Form {
+    // Reads the ticks of a turn, mixes and sends them, and answers whether a turn follows.
+    fn turn(&mut self, mixing: &mut Mixing) -> Result<bool, Stop>;
 }

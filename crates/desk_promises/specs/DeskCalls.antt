@@ -9,7 +9,7 @@ use Rattle.conference.proofs.Cases.{refused, accepted}
 use Rattle.conference.specs.Own.{TickInput}
 use Rattle.conference.proofs.Good.{GoodDesk, desk_stays_good}
 use Rattle.conference.specs.declared.Desk.{Desk}
-use Rattle.conference.specs.declared.Ticked.{Ticked}
+use Rattle.conference.specs.Answers.{Ticked}
 use Rattle.promises.proofs.Through.{Calls, Runs, through, taken, lefts, done, following}
 use Rattle.promises.proofs.ThroughLaws.{as_one_run, left_as_one_run}
 

@@ -17,9 +17,8 @@ use Rattle.g722.specs.Decoding.{yl_of, yh_of, rl_of, rh_of, samples_in_full, dec
 use Rattle.g722.specs.Steps.{band_after, low_next, high_next, yls_of, yhs_of, rls_of, rhs_of, heard_after, heard}
 use Rattle.g722.specs.Steps.{joined_in_full, joined_of, joined_after, joined}
 use Rattle.g722.specs.declared.Coder.{Coder}
-use Rattle.g722.specs.declared.Coded.{Coded}
+use Rattle.g722.specs.Answers.{Coded, Decoded}
 use Rattle.g722.specs.declared.Decoder.{Decoder}
-use Rattle.g722.specs.declared.Decoded.{Decoded}
 use Rattle.facts.specs.Told.{full_length}
 use Rattle.facts.specs.Steps.{record_cut, full_cut, samples_cut, signals_cut, band_cut, joined_cut, pairs_cut, joined_most}
 use Rattle.facts.specs.Overload.{overloads_append, overloads_most}

@@ -12,7 +12,7 @@ use Rattle.g722.specs.Decoding.{decode_call}
 use Rattle.g722.specs.Steps.{hear_call, join_call}
 use Rattle.g722.specs.declared.Coder.{Coder}
 use Rattle.g722.specs.declared.Decoder.{Decoder}
-use Rattle.g722.specs.declared.Moved.{Moved}
+use Rattle.g722.specs.Answers.{Moved}
 
 pub record Case : Type 0 where
   pub got : List ℤ

@@ -10,7 +10,7 @@ use Rattle.g722.specs.Octet.{octet}
 use Rattle.g722.specs.Records.{in_range, good_coder}
 use Rattle.g722.specs.declared.Band.{Band}
 use Rattle.g722.specs.declared.Coder.{Coder}
-use Rattle.g722.specs.declared.Coded.{Coded}
+use Rattle.g722.specs.Answers.{Coded}
 
 -- the 24 samples that a pair's filter sees, x before y
 unfoldable pub window : Coder → ℤ → ℤ → List ℤ

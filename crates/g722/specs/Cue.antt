@@ -3,7 +3,7 @@
 -- Assumes nothing.
 use Rattle.std.specs.Prelude.{Bool, cond, ◌||◌, not, List, [], ◌∷◌, ◌++◌, ℕ, zero, suc, ◌+◌, ◌*◌, ◌/◌, ◌%◌, ◌-◌, ◌^◌, ltb, eqb, length, take, drop}
 use Rattle.laws.specs.Outcome.{Outcome}
-use Rattle.g722.specs.declared.Moved.{Moved}
+use Rattle.g722.specs.Answers.{Moved}
 
 -- the last k bits of a number, highest first, and those of each of a list
 unfoldable pub bits : ℕ → ℕ → List ℕ

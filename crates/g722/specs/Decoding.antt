@@ -11,7 +11,7 @@ use Rattle.g722.specs.Records.{good_decoder}
 use Rattle.g722.specs.Coding.{misfit}
 use Rattle.g722.specs.declared.Band.{Band}
 use Rattle.g722.specs.declared.Decoder.{Decoder}
-use Rattle.g722.specs.declared.Decoded.{Decoded}
+use Rattle.g722.specs.Answers.{Decoded}
 
 -- YL and YH: the heard signals in full. The mode in force chooses the low one, and not what the loop keeps
 unfoldable pub yl_of : ℕ → Band → ℕ → ℤ

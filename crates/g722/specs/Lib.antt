@@ -8,6 +8,8 @@ pub mod Band
 pub mod Mirror
 pub mod Octet
 pub mod Records
+pub mod Refused
+pub mod Answers
 pub mod Coding
 pub mod Decoding
 pub mod Steps

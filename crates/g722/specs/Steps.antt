@@ -13,7 +13,7 @@ use Rattle.g722.specs.Decoding.{yl_of, yh_of, rl_of, rh_of}
 use Rattle.g722.specs.declared.Band.{Band}
 use Rattle.g722.specs.declared.Pairs.{Pairs}
 use Rattle.g722.specs.declared.Decoder.{Decoder}
-use Rattle.g722.specs.declared.Decoded.{Decoded}
+use Rattle.g722.specs.Answers.{Decoded}
 
 -- ---- the first step: hearing
 

@@ -1,6 +1,9 @@
-// The records of G.722 (11/88), section 6, as SCOPE 14 to 16 list them, and the answers of the calls. Types only.
+// The records of G.722 (11/88), section 6, as SCOPE 14 to 16 list them, and what a call answers.
 // Time runs left to right in every array: the oldest stands first, so b[5] is BL1 and d[5] is DLT1.
 #![tactic(auto)]
+
+ghost use Rattle.std.specs.Prelude.{◌≡◌};
+ghost use Rattle.g722.specs.Refused.{number_of, index_of};
 
 // The transversal part of a predictor: six coefficients and the six past quantised differences that they meet.
 #[derive(Clone, Copy)]
@@ -72,27 +75,52 @@ pub struct Limited {
     pub changed: bool,
 }
 
-// The answers: the number of SCOPE 7, the index that number 4 gives a place (SCOPE 11), how many values were limited (SCOPE 86), and the
-// next record.
-#[derive(Clone, Copy)]
-pub struct Coded {
-    pub number: u8,
-    pub index: usize,
-    pub limited: u32,
-    pub next: Coder,
+// Why a call is refused: the numbers of SCOPE 7. A sample or signal out of range has a place, which is its index (SCOPE 11).
+#[derive(Clone, Copy, PartialEq, Eq)]
+pub enum Refusal {
+    Mode,
+    Record,
+    Length,
+    Sample(usize),
+    DataChannel,
+    BlockSize,
+    Check,
+    Contents,
+    Ports,
 }
 
-#[derive(Clone, Copy)]
-pub struct Decoded {
-    pub number: u8,
-    pub index: usize,
-    pub limited: u32,
-    pub next: Decoder,
+impl Refusal {
+    // The number of SCOPE 7.
+    pub fn number(self) -> u8
+        ensures { result ≡ number_of self }
+    {
+        match self {
+            Refusal::Mode => 1,
+            Refusal::Record => 2,
+            Refusal::Length => 3,
+            Refusal::Sample(_) => 4,
+            Refusal::DataChannel => 5,
+            Refusal::BlockSize => 6,
+            Refusal::Check => 7,
+            Refusal::Contents => 8,
+            Refusal::Ports => 9,
+        }
+    }
+
+    // The index that number 4 gives a place; 0 of every other.
+    pub fn index(self) -> usize
+        ensures { result ≡ index_of self }
+    {
+        match self {
+            Refusal::Sample(index) => index,
+            _ => 0,
+        }
+    }
 }
 
-// The answer of a call that has no record.
+// What an accepted call gives: how many values were limited (SCOPE 86), and the next record.
 #[derive(Clone, Copy)]
-pub struct Moved {
-    pub number: u8,
-    pub index: usize,
+pub struct Accepted<R> {
+    pub limited: u32,
+    pub next: R,
 }

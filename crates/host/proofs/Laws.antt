@@ -3,7 +3,7 @@
 use mathlib.Core.Path.{◌≡◌, refl, sym, ap, ◌∙◌}
 use mathlib.Core.Bool.{Bool, true, ◌||◌, not}
 use mathlib.Core.List.{List}
-use Prim.Native.Nat.{ℕ, ◌*◌}
+use Prim.Native.Nat.{ℕ, ◌*◌, ◌≤◌, min}
 use native.Mathlib.Omega.{arith}
 use borrow.Author.Tests.{eq-eqb, ne_eqb}
 use lib.Dec.{ltb, eqb}
@@ -13,48 +13,67 @@ use Rattle.laws.specs.Outcome.{Outcome, Does}
 use Rattle.g722.specs.Records.{good_decoder}
 use Rattle.g722.specs.Coding.{misfit, not_coded, code_call}
 use Rattle.g722.specs.Decoding.{decoded}
+use Rattle.g722.specs.Answers.{Answer, Moved}
+use Rattle.g722.specs.Refused.{number_of, index_of}
 use Rattle.g722.specs.declared.Decoder.{Decoder}
+use Rattle.g722.specs.declared.Refusal.{Refusal}
 use Rattle.big_endian.specs.Bytes.{pcm_samples}
 use Rattle.pcm.specs.Chunks.{encode_chunk, not_stored, as_bytes, decode_chunk}
+use Rattle.pcm.proofs.Calls.{refuses}
 use Rattle.state.specs.Layout.{holds, coder_in, decoder_in, write_call}
 use Rattle.state.proofs.Reset.{unheld_coder_broken, unheld_decoder_broken, held_length}
 use Rattle.host.specs.Answer.{packed}
 use Rattle.host.specs.Calls.{state_after}
 
+-- ---- a refused call's word, where its index has room
+
+room : (i : ℕ) → i ≤ 16777215 → min i 16777215 ≡ i
+room i h = omega arith
+
+-- a data call's has none
+pub told_data : (r : Refusal) {m : Moved} {word : ℕ} → ◌≡◌ {A = Moved} (record { number = number_of r; index = index_of r }) m → m.index ≡ 0
+    → word ≡ packed (number_of r) (min (index_of r) 16777215) 0 → word ≡ packed m.number m.index 0
+told_data r e none told =
+    let i : index_of r ≤ 16777215 = omega (arith, none, ap (λ (m : Moved). m.index) e) in
+    told ∙ ap (λ (i : ℕ). packed (number_of r) i 0) (room (index_of r) i) ∙ ap (λ (m : Moved). packed m.number m.index 0) e
+
 -- ---- a call on a record, between reading and writing its state: one law for both records, whatever else is lent
 
-module _ {A L : Type 0} (number index count : A → ℕ) (bytes : A → List ℕ) (state : List ℕ) (x : Outcome A L) where
-  abbrev said : A → ℕ
-  said a = packed (number a) (index a) (count a)
+module _ {R L : Type 0} (bytes : R → List ℕ) (state : List ℕ) (x : Outcome (Answer R) L) where
+  abbrev said : Answer R → ℕ
+  said a = packed a.number a.index a.limited
 
   abbrev hosted : Outcome ℕ (List ℕ × L)
   hosted =
       record {
         answer = said x.answer;
-        left = (state_after (number x.answer) (bytes x.answer) state, x.left);
+        left = (state_after x.answer.number (bytes x.answer.next) state, x.left);
       }
 
-  module _ {r : A} {left : L} {word : ℕ} (did : Does x r left) (told : word ≡ said r) where
-    spoken : word ≡ said x.answer
-    spoken = told ∙ ap said did.answer
+  -- an accepted call has its state written
+  pub moves : {limited : ℕ} {next : R} {left : L} {word : ℕ} {wrote : Bool} {written : List ℕ}
+      → Does x (record { number = 0; index = 0; limited = limited; next = next }) left → word ≡ packed 0 0 limited → length state ≡ 125
+      → Does (write_call (bytes next) state) wrote written → Does hosted word (written, left)
+  unfolding write_call
+  moves {next = next} {written = written} did told l w =
+      let wrote : written ≡ bytes next = w.left ∙ simp (eq-eqb _ _ l) in
+      let n : x.answer.number ≡ 0 = sym (ap (λ (a : Answer R). a.number) did.answer) in
+      record {
+        answer = told ∙ ap said did.answer;
+        left = (λ i. ((wrote ∙ ap (λ (a : Answer R). bytes a.next) did.answer) i, did.left i)) ∙ rw n refl;
+      }
 
-    -- an accepted call has its state written
-    pub moves : {wrote : Bool} {next : List ℕ} → number r ≡ 0 → length state ≡ 125 → Does (write_call (bytes r) state) wrote next
-        → Does hosted word (next, left)
-    unfolding write_call
-    moves {next = next} z l w =
-        let wrote : next ≡ bytes r = w.left ∙ simp (eq-eqb _ _ l) in
-        let n : number x.answer ≡ 0 = sym (ap number did.answer) ∙ z in
-        record {
-          answer = spoken;
-          left = (λ i. ((wrote ∙ ap bytes did.answer) i, did.left i)) ∙ rw n refl;
-        }
-
-    -- a refused one leaves it
-    pub stays : (number r ≡ 0 → ⊥) → Does hosted word (state, left)
-    stays z =
-        let n : number x.answer ≡ 0 → ⊥ = λ e. z (ap number did.answer ∙ e) in
-        record { answer = spoken; left = (λ i. (state, did.left i)) ∙ rw (ne_eqb _ _ n) refl }
+  -- a refused one leaves it
+  pub stays : (r : Refusal) {next : R} {left : L} {word : ℕ}
+      → Does x (record { number = number_of r; index = index_of r; limited = 0; next = next }) left
+      → word ≡ packed (number_of r) (min (index_of r) 16777215) 0 → x.answer.index ≤ 16777215 → Does hosted word (state, left)
+  stays r did told small =
+      let n : x.answer.number ≡ 0 → ⊥ = λ e. refuses r (ap (λ (a : Answer R). a.number) did.answer ∙ e) in
+      let i : index_of r ≤ 16777215 = omega (arith, small, ap (λ (a : Answer R). a.index) did.answer) in
+      record {
+        answer = told ∙ ap (λ (i : ℕ). packed (number_of r) i 0) (room (index_of r) i) ∙ ap said did.answer;
+        left = (λ i. (state, did.left i)) ∙ rw (ne_eqb _ _ n) refl;
+      }
 
 -- ---- an accepted call was handed the bytes of a state
 

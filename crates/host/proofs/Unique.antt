@@ -1,8 +1,15 @@
 -- The public functions of `host`, each by its own contract: it asks nothing, and leaves one answer and one content of lent memory.
+use mathlib.Core.Path.{refl}
 use base.Stored.{coded×, coded_list, coded_ℕ}
-use Rattle.laws.specs.One.{LeavesOne, call}
+use Rattle.laws.specs.One.{LeavesOne, equation, call}
 use Rattle.host.proofs as host
 use Rattle.host.specs.contracts as contracts
+
+pub accepted : LeavesOne contracts.accepted.ended (λ M 𝓤. contracts.accepted.clauses) host.accepted.Symbol.name host.accepted.Symbol.code
+accepted = equation (λ κs a l m. refl) (λ M. host.accepted.Met.met)
+
+pub refused : LeavesOne contracts.refused.ended (λ M 𝓤. contracts.refused.clauses) host.refused.Symbol.name host.refused.Symbol.code
+refused = equation (λ κs a l m. refl) (λ M. host.refused.Met.met)
 
 pub zelcandry_code : LeavesOne contracts.zelcandry_code.ended (λ M 𝓤. contracts.zelcandry_code.clauses) host.zelcandry_code.Symbol.name host.zelcandry_code.Symbol.code
 zelcandry_code =

@@ -3,9 +3,7 @@
 use Rattle.std.specs.Prelude.{cond, List, ℕ, eqb}
 use Rattle.laws.specs.Outcome.{Outcome}
 use Rattle.g722.specs.Cue.{put_call, take_call}
-use Rattle.g722.specs.declared.Coded.{Coded}
-use Rattle.g722.specs.declared.Decoded.{Decoded}
-use Rattle.g722.specs.declared.Moved.{Moved}
+use Rattle.g722.specs.Answers.{Coded, Decoded, Moved}
 use Rattle.pcm.specs.Chunks.{encode_chunk, decode_chunk}
 use Rattle.state.specs.Layout.{coder_in, coder_bytes, decoder_in, decoder_bytes}
 use Rattle.host.specs.Answer.{packed}

@@ -2,20 +2,31 @@
 // the state as bytes.
 #![tactic(auto)]
 
-ghost use Rattle.std.specs.Prelude.{◌≡◌, ◌<◌, ◌^◌};
+ghost use Rattle.std.specs.Prelude.{◌≡◌, min};
 ghost use Rattle.laws.specs.Outcome.{Does};
+ghost use Rattle.g722.specs.Refused.{number_of, index_of};
 ghost use Rattle.host.specs.Answer.{packed};
 ghost use Rattle.host.specs.Calls.{code_bytes, decode_bytes, put_bytes, take_bytes};
 
+use g722::Refusal;
 use pcm::{decode_chunk, encode_chunk};
 use state::{read_coder, read_decoder, write_coder, write_decoder};
 
-// A number, an index and a count in one word.
-fn packed(number: u8, index: usize, limited: u32) -> u64
-    requires { index < 2 ^ 24 }
-    ensures { result ≡ packed number index limited }
+// The word of an accepted call: its count.
+#[tactic(auto, unfolding(crate::specs::Answer::packed))]
+pub fn accepted(limited: u32) -> u64
+    ensures { result ≡ packed 0 0 limited }
 {
-    number as u64 + 256 * (index as u64) + 4294967296 * (limited as u64)
+    4294967296 * u64::from(limited)
+}
+
+// The word of a refused call: its number, and its index. A chunk's index is small; one that has no room in its 24 bits is told as the
+// greatest that has.
+#[tactic(auto, unfolding(crate::specs::Answer::packed))]
+pub fn refused(refusal: Refusal) -> u64
+    ensures { result ≡ packed (number_of refusal) (min (index_of refusal) 16777215) 0 }
+{
+    u64::from(refusal.number()) + 256 * (refusal.index().min(16777215) as u64)
 }
 
 // Codes 4n bytes of samples to n octets.
@@ -23,12 +34,13 @@ pub fn zelcandry_code(state: &mut [u8], samples: &[u8], octets: &mut [u8]) -> u6
     ensures { Does (code_bytes state.old samples.now octets.old) result
         (state.new, octets.new) }
 {
-    let a = encode_chunk(read_coder(state), samples, octets);
-    let answer = packed(a.number, a.index, a.limited);
-    if a.number == 0 {
-        write_coder(a.next, state);
+    match encode_chunk(read_coder(state), samples, octets) {
+        Ok(coded) => {
+            write_coder(coded.next, state);
+            accepted(coded.limited)
+        }
+        Err(refusal) => refused(refusal),
     }
-    answer
 }
 
 // Decodes n octets to 4n bytes of samples, in a told mode.
@@ -36,26 +48,31 @@ pub fn zelcandry_decode(state: &mut [u8], mode: u8, octets: &[u8], samples: &mut
     ensures { Does (decode_bytes state.old mode octets.now samples.old) result
         (state.new, samples.new) }
 {
-    let a = decode_chunk(read_decoder(state), mode, octets, samples);
-    let answer = packed(a.number, a.index, a.limited);
-    if a.number == 0 {
-        write_decoder(a.next, state);
+    match decode_chunk(read_decoder(state), mode, octets, samples) {
+        Ok(decoded) => {
+            write_decoder(decoded.next, state);
+            accepted(decoded.limited)
+        }
+        Err(refusal) => refused(refusal),
     }
-    answer
 }
 
 // Puts data into octets.
 pub fn zelcandry_put(mode: u8, octets: &mut [u8], bytes: &[u8]) -> u64
     ensures { Does (put_bytes mode octets.old bytes.now) result octets.new }
 {
-    let a = cue::put(mode, octets, bytes);
-    packed(a.number, a.index, 0)
+    match cue::put(mode, octets, bytes) {
+        Ok(()) => accepted(0),
+        Err(refusal) => refused(refusal),
+    }
 }
 
 // Takes data out of octets.
 pub fn zelcandry_take(mode: u8, octets: &[u8], bytes: &mut [u8]) -> u64
     ensures { Does (take_bytes mode octets.now bytes.old) result bytes.new }
 {
-    let a = cue::take(mode, octets, bytes);
-    packed(a.number, a.index, 0)
+    match cue::take(mode, octets, bytes) {
+        Ok(()) => accepted(0),
+        Err(refusal) => refused(refusal),
+    }
 }

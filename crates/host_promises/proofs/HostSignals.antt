@@ -10,7 +10,7 @@ use Rattle.g722.specs.Quantise.{in_force}
 use Rattle.g722.specs.Records.{good_decoder}
 use Rattle.g722.specs.Steps.{heard}
 use Rattle.g722.specs.declared.Decoder.{Decoder}
-use Rattle.g722.specs.declared.Decoded.{Decoded}
+use Rattle.g722.specs.Answers.{Decoded}
 use Rattle.big_endian.specs.Bytes.{pcm_bytes}
 use Rattle.pcm.specs.Signals.{unpaired_bytes, not_heard_bytes, both_as_bytes, hear_chunk}
 use Rattle.state.specs.Layout.{decoder_bytes, decoder_in}

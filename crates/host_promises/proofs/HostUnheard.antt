@@ -14,7 +14,7 @@ use Rattle.g722.specs.Quantise.{in_force}
 use Rattle.g722.specs.Records.{good_decoder}
 use Rattle.g722.specs.Decoding.{decoded}
 use Rattle.g722.specs.declared.Decoder.{Decoder}
-use Rattle.g722.specs.declared.Decoded.{Decoded}
+use Rattle.g722.specs.Answers.{Decoded}
 use Rattle.big_endian.specs.Bytes.{pcm_bytes}
 use Rattle.pcm.specs.Chunks.{not_stored, as_bytes, decode_chunk}
 use Rattle.state.specs.Layout.{decoder_bytes, decoder_in}

@@ -14,9 +14,8 @@ use Rattle.g722.specs.Decoding.{decoded}
 use Rattle.big_endian.specs.Bytes.{pcm_samples, pcm_bytes, bytes_join}
 use Rattle.pcm.specs.Chunks.{encode_chunk, not_stored, as_bytes, decode_chunk}
 use Rattle.g722.specs.declared.Coder.{Coder}
-use Rattle.g722.specs.declared.Coded.{Coded}
+use Rattle.g722.specs.Answers.{Coded, Decoded}
 use Rattle.g722.specs.declared.Decoder.{Decoder}
-use Rattle.g722.specs.declared.Decoded.{Decoded}
 use Rattle.facts.specs.Told.{Told, decoder_run, full_run, samples_run, marked, decoder_run_lem, samples_run_lem, decoder_join, samples_join}
 use Rattle.promises.proofs.Through.{Calls, Runs, done, through, taken, lefts}
 use Rattle.promises.proofs.ThroughLaws.{as_one_run, left_as_one_run}

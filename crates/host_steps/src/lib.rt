@@ -2,21 +2,12 @@
 // compiled by itself: in one with `zelcandry_decode` the compiler would no longer put into its loops what the steps call too.
 #![tactic(auto)]
 
-ghost use Rattle.std.specs.Prelude.{◌≡◌, ◌<◌, ◌^◌};
 ghost use Rattle.laws.specs.Outcome.{Does};
-ghost use Rattle.host.specs.Answer.{packed};
 ghost use Rattle.host_steps.specs.Calls.{hear_bytes, join_bytes};
 
+use host::{accepted, refused};
 use pcm::{hear_chunk, join_chunk};
 use state::{read_decoder, write_decoder};
-
-// A number, an index and a count in one word.
-fn packed(number: u8, index: usize, limited: u32) -> u64
-    requires { index < 2 ^ 24 }
-    ensures { result ≡ packed number index limited }
-{
-    number as u64 + 256 * (index as u64) + 4294967296 * (limited as u64)
-}
 
 // The first step: n octets to 2n bytes of low and 2n of high signals, in a told mode.
 pub fn zelcandry_hear(
@@ -29,12 +20,13 @@ pub fn zelcandry_hear(
     ensures { Does (hear_bytes state.old mode octets.now low.old high.old) result
         (state.new, (low.new, high.new)) }
 {
-    let heard = hear_chunk(read_decoder(state), mode, octets, low, high);
-    let answer = packed(heard.number, heard.index, heard.limited);
-    if heard.number == 0 {
-        write_decoder(heard.next, state);
+    match hear_chunk(read_decoder(state), mode, octets, low, high) {
+        Ok(heard) => {
+            write_decoder(heard.next, state);
+            accepted(heard.limited)
+        }
+        Err(refusal) => refused(refusal),
     }
-    answer
 }
 
 // The second step: 2n bytes of low and 2n of high signals to 4n bytes of samples.
@@ -42,10 +34,11 @@ pub fn zelcandry_join(state: &mut [u8], low: &[u8], high: &[u8], samples: &mut [
     ensures { Does (join_bytes state.old low.now high.now samples.old) result
         (state.new, samples.new) }
 {
-    let joined = join_chunk(read_decoder(state), low, high, samples);
-    let answer = packed(joined.number, joined.index, joined.limited);
-    if joined.number == 0 {
-        write_decoder(joined.next, state);
+    match join_chunk(read_decoder(state), low, high, samples) {
+        Ok(joined) => {
+            write_decoder(joined.next, state);
+            accepted(joined.limited)
+        }
+        Err(refusal) => refused(refusal),
     }
-    answer
 }

@@ -22,6 +22,9 @@ pub record Held (f : Scales) : Type 0 where
   pub log : mag f.log < 2 ^ 15
   pub scale : mag f.scale < 2 ^ 15
 
+pub held_of : (f : Scales) → Held f
+held_of f = record { log = f.log_bound; scale = f.scale_bound }
+
 -- the next factors of a band after a weight, low or high
 abbrev pub top : Bool → ℤ
 top high = cond high (pos 22528) (pos 18432)

@@ -1,8 +1,8 @@
 -- A chain of sums that stop is the plain sum where neither its positive nor its negative terms, added up, leave 16 bits.
 -- Assumes nothing.
-use Rattle.std.specs.Prelude.{◌≡◌, refl, Bool, true, false, cond, not, ◌&&◌, ℕ, zero, suc, ◌+◌, ◌*◌, ◌≤◌, ◌<◌, ltb, ℤ, pos, negsuc, neg_ℤ, nat_abs, ◌+ℤ◌, ◌*ℤ◌}
+use Rattle.std.specs.Prelude.{◌≡◌, refl, Bool, true, false, cond, ◌&&◌, ℕ, zero, suc, ◌+◌, ◌*◌, ◌≤◌, ltb, ℤ, pos, negsuc, neg_ℤ, nat_abs, ◌+ℤ◌, ◌*ℤ◌}
 use Rattle.std.proofs.Common.{sym, ap, ◌∙◌, div-add-mod', arith, ltb-true, le-ltb, lt-ltb}
-use mathlib.Core.List.{List, [], ◌∷◌, zip_with, map}
+use mathlib.Core.List.{List, [], ◌∷◌, zip_with}
 use Rattle.std.specs.Int.Signed.{lt_z, shr_z}
 use Rattle.std.proofs.lemmas.Bool.{lt-leb}
 use Rattle.laws.specs.Order.{up, dn, zarith, add_read, by_test, no}

@@ -27,6 +27,10 @@ pub record Fit (w : Recursive) : Type 0 where
   pub t1 : w.t1 ≡ stop (w.r1 +ℤ w.r1)
   pub t2 : w.t2 ≡ stop (w.r2 +ℤ w.r2)
 
+-- each has them
+pub fit_of : (w : Recursive) → Fit w
+fit_of w = record { a1 = w.a1_bound; a2 = w.a2_bound; t1 = w.t1_is; t2 = w.t2_is }
+
 -- ---- sizes
 
 pub up_abs : (z : ℤ) → up z ≤ nat_abs z

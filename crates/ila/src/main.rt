@@ -35,10 +35,7 @@ const ILA: [u16; 353] = [
 fn ila_at(k: usize) -> u16
     ensures { result ≡ get_or ila k 0 }
 {
-    if k < 353 {
-        return ILA[k];
-    }
-    0
+    ILA.get(k).copied().unwrap_or(0)
 }
 
 // (ILA + 1) << 2 at an address: method 1 of SCALEL and SCALEH.
@@ -49,28 +46,22 @@ fn stored(k: usize) -> i16
 }
 
 // Counts the addresses at which both are the same.
-fn count(more: u16) -> u64 {
-    let mut same: u64 = 0;
-    for k in 0..576 {
-        if arith::equal(tables::scale_at(k + more as usize), stored(k)) {
-            same += 1;
-        }
-    }
-    same
+fn count(more: u16) -> usize {
+    (0..576)
+        .filter(|k| tables::scale_at(*k + usize::from(more)) == stored(*k))
+        .count()
 }
 
 // The number that the argument gives, or 0 where it gives none below 65536.
 fn told(rt: &impl Env) -> u16 {
-    let mut word = [0u8; 5];
+    let mut word = [0; 5];
     let n = rt.arg(1, &mut word).unwrap_or(0);
-    let number = argument::number(&word[..n]);
-    if number < 65536 {
-        return number as u16;
-    }
-    0
+    argument::number(&word[..n])
+        .and_then(|number| u16::try_from(number).ok())
+        .unwrap_or(0)
 }
 
-fn say(out: &impl Print, same: u64) -> io::Result<()> {
+fn say(out: &impl Print, same: usize) -> io::Result<()> {
     println!(out; "{same} of 576 addresses have the scale factor of the table")
 }
 
@@ -78,7 +69,8 @@ fn say(out: &impl Print, same: u64) -> io::Result<()> {
 fn main(rt: HostRuntime) -> io::Result<()> {
     let same = count(told(&rt));
     if same == 576 {
-        return say(&rt.stdout(), same);
+        say(&rt.stdout(), same)
+    } else {
+        say(&rt.stderr(), same)
     }
-    say(&rt.stderr(), same)
 }

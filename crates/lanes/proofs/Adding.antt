@@ -11,13 +11,20 @@ use lib.IntN.{ℤ, pos, negsuc, nat_abs, ◌+ℤ◌, ◌-ℤ◌}
 use lib.ListN.{length, take, get_or}
 use lib.Seq.{take_all}
 use lib.Signed.{lt_z}
-use borrow.Author.Tests.{ltb-true, ltb-false}
+use borrow.Author.Tests.{ltb-true, ltb-false, lt-ltb}
 use mir.Syntax.{w32}
 use mir.Val.{SFits}
+use Rattle.std.specs.Int.{int_max}
 use Rattle.laws.specs.Order.{up, dn, zarith, add_read, sub_read, by_test}
 use Rattle.laws.specs.Size.{abs_add, abs_sub, fits_abs}
 use Rattle.g722.specs.Arithmetic.{neg}
 use Rattle.idle.specs.Plain.{ups, dns, fits, total, total_sides}
+
+-- a term where it is positive, and 0 elsewhere
+pub above : (z : ℤ) → int_max z (pos 0) ≡ pos (up z)
+above (pos zero) = refl
+above (pos (suc n)) = simp (lt-ltb 0 (suc n) (omega arith))
+above (negsuc n) = refl
 
 up_abs : (z : ℤ) → up z ≤ nat_abs z
 up_abs (pos n) = omega arith

@@ -1,4 +1,5 @@
 -- What the proofs of `lanes` share, and the table of answers.
 pub mod Sides
 pub mod Adding
+pub mod Rows
 pub mod Unique

@@ -11,6 +11,7 @@ ghost use Rattle.idle.specs.Plain.{raw, signed_gain};
 ghost use Rattle.lanes.specs.Sum.{plain_of};
 
 use arith::{add, mul, wide};
+use std::array;
 
 // A plain sum of terms, and whether it is what the chain of stopping sums gives: neither its positive nor its negative terms,
 // added up, leave 16 bits.
@@ -31,10 +32,7 @@ fn raw(b: i16, d: i16) -> i32
 fn positive(x: i32) -> i32
     ensures { result ≡ pos (up x) }
 {
-    if x < 0 {
-        return 0;
-    }
-    x
+    x.max(0)
 }
 
 // Whether neither the positive nor the negative terms of a sum leave 16 bits: all is the sum, high that of its positive terms.
@@ -42,26 +40,23 @@ fn whole(all: i32, high: i32) -> bool
     requires { nat_abs (all -ℤ high) ≤ 524288 }
     ensures { result ≡ (lt_z high (pos 32768) && lt_z (neg 32769) (all -ℤ high)) }
 {
-    if high < 32768 {
-        return -32769 < all - high;
-    }
-    false
+    high < 32768 && -32769 < all - high
 }
 
 // The plain sum of a row of eight lanes.
 pub fn plain(b: [i16; 8], d: [i16; 8]) -> PlainSum
     ensures { result ≡ plain_of b d }
 {
-    let mut all: i32 = 0;
-    let mut high: i32 = 0;
-    for i in 0..8 {
-        let w = raw(b[i], d[i]);
-        all = all + w;
-        high = high + positive(w);
+    let mut sum = 0;
+    let mut high = 0;
+    for (b, d) in b.iter().zip(&d) {
+        let w = raw(*b, *d);
+        sum += w;
+        high += positive(w);
     }
     PlainSum {
-        sum: all,
-        whole: whole(all, high),
+        sum,
+        whole: whole(sum, high),
     }
 }
 
@@ -77,12 +72,12 @@ fn signed_gain(d: i16) -> i16
     ensures { result ≡ signed_gain d }
 {
     if d < 0 {
-        return -128;
+        -128
+    } else if 0 < d {
+        128
+    } else {
+        0
     }
-    if 0 < d {
-        return 128;
-    }
-    0
 }
 
 // One coefficient's next value, at the signed gain g.
@@ -98,9 +93,5 @@ pub fn adapt(b: [i16; 8], past: [i16; 8], d: i16) -> [i16; 8]
     ensures { result ≡ zip_with (upzero d) b past }
 {
     let g = signed_gain(d);
-    let mut next = b;
-    for k in 0..8 {
-        next[k] = moved(g, b[k], past[k]);
-    }
-    next
+    array::from_fn(|k| moved(g, b[k], past[k]))
 }

@@ -123,3 +123,23 @@ module _ {T : Ended} where
       → Met T (Claim T (λ κs a r e. Does (f κs a) r (see κs e))) k ρ → LeavesOne T (Claim T (λ κs a r e. Does (f κs a) r (see κs e))) k ρ
   call {f} {see} coded all met =
       leaves {φ = λ κs a r e. Does (f κs a) r (see κs e)} coded see all (λ κs a r s e e' p q. once p q) met
+
+  -- as where that is said of a view of the answer, which tells any two apart
+  pub seen_equation : {A : Type 0} {f : (κs : Lifetimes T) → Input T κs → A} {view : (κs : Lifetimes T) → Input T κs → Answer T κs → A}
+      → {k : Callee} {ρ : Code}
+      → ((κs : Lifetimes T) (a : Input T κs) (r s : Answer T κs) → view κs a r ≡ view κs a s → r ≡ s)
+      → ((κs : Lifetimes T) (a : Input T κs) (l m : Lasts T κs a) → l ≡ m)
+      → Met T (Claim T (λ κs a r e. view κs a r ≡ f κs a)) k ρ → LeavesOne T (Claim T (λ κs a r e. view κs a r ≡ f κs a)) k ρ
+  seen_equation {f} {view} tells still met =
+      claimed {φ = λ κs a r e. view κs a r ≡ f κs a} still (λ κs a r s e e' p q. tells κs a r s (p ∙ sym q)) met
+
+  pub seen_call : {A X : Type 0} {f : (κs : Lifetimes T) → Input T κs → Outcome A X}
+      → {view : (κs : Lifetimes T) → Input T κs → Answer T κs → A} {see : (κs : Lifetimes T) → AtExit T κs → X} {k : Callee} {ρ : Code}
+      → Coded X
+      → ((κs : Lifetimes T) (a : Input T κs) (r s : Answer T κs) → view κs a r ≡ view κs a s → r ≡ s)
+      → ((κs : Lifetimes T) (a : Input T κs) (l m : Lasts T κs a) → see κs (at_exit T κs a l) ≡ see κs (at_exit T κs a m) → l ≡ m)
+      → Met T (Claim T (λ κs a r e. Does (f κs a) (view κs a r) (see κs e))) k ρ
+      → LeavesOne T (Claim T (λ κs a r e. Does (f κs a) (view κs a r) (see κs e))) k ρ
+  seen_call {f} {view} {see} coded tells all met =
+      leaves {φ = λ κs a r e. Does (f κs a) (view κs a r) (see κs e)} coded see all
+      (λ κs a r s e e' p q. let same = once p q in (tells κs a r s same.0, same.1)) met

@@ -7,8 +7,8 @@ use native.Mathlib.Omega.{arith}
 use lib.ListN.{length, get_or, set, take, drop, replicate, length-append, length-drop, length-set, length-replicate, get_or-replicate}
 use lib.ListN.{take-append-drop}
 use lib.Seq.{ext_get_or, get_or-take, get_or-set_same, get_or-set_other, drop-set-lt, length-take-le}
-use lib.IntN.{ℤ, pos, negsuc}
-use lib.Signed.{lt_z, mag}
+use lib.IntN.{ℤ, pos, negsuc, nat_abs}
+use lib.Signed.{lt_z}
 use mathlib.Core.Bool.{true, false}
 use borrow.Author.Tests.{ltb-true}
 use Rattle.laws.specs.Order.{no}
@@ -108,12 +108,12 @@ finished {k} {w} {line} {r} e h = shut h.sound ∙ ap line_of (h.text ∙ ap (λ
 
 -- ---- a signed number
 
-pub negative : (z : ℤ) (n : ℕ) → lt_z z (pos 0) ≡ true → n ≡ mag z → 45 ∷ decimal (n + 1) ≡ signed z
+pub negative : (z : ℤ) (n : ℕ) → lt_z z (pos 0) ≡ true → n ≡ nat_abs z → 45 ∷ decimal n ≡ signed z
 unfolding signed
 negative (pos m) n h e = absurd (omega (arith, ltb-true m 0 h))
-negative (negsuc m) n h e = ap (λ (k : ℕ). 45 ∷ decimal k) (omega arith)
+negative (negsuc m) n h e = ap (λ (k : ℕ). 45 ∷ decimal k) e
 
-pub positive : (z : ℤ) (n : ℕ) → lt_z z (pos 0) ≡ false → n ≡ mag z → decimal n ≡ signed z
+pub positive : (z : ℤ) (n : ℕ) → lt_z z (pos 0) ≡ false → n ≡ nat_abs z → decimal n ≡ signed z
 unfolding signed
 positive (pos m) n h e = ap decimal e
 positive (negsuc m) n h e = no h

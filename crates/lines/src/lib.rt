@@ -5,8 +5,6 @@ ghost use Rattle.std.specs.Prelude.{◌≡◌, [], ◌∷◌, ◌+◌, ◌<◌, 
 ghost use Rattle.lines.specs.Decimal.{decimal, signed};
 ghost use Rattle.lines.specs.Lines.{line_of, Ready, Wrote, block_line, refused_line, overload_line};
 
-use arith::size;
-
 // Bytes that end with a line: it stands from `at` on, behind zeros.
 #[derive(Clone, Copy)]
 pub struct Line {
@@ -14,92 +12,85 @@ pub struct Line {
     pub at: usize,
 }
 
-// No line yet.
-fn empty() -> Line
-    ensures { (result ≡ line_of []) × Ready 160 result }
-{
-    Line {
-        bytes: [0; 160],
-        at: 160,
-    }
-}
-
-// A byte before the line.
-fn put(line: Line, byte: u8) -> Line
-    requires { Ready 1 line }
-    ensures { Wrote 1 (byte ∷ []) line result }
-{
-    let mut bytes = line.bytes;
-    let at = line.at - 1;
-    bytes[at] = byte;
-    Line {
-        bytes: bytes,
-        at: at,
-    }
-}
-
 // A digit's byte.
 fn digit(n: u64) -> u8
     requires { n < 10 }
     ensures { result ≡ 48 + n }
 {
-    48 + n as u8
+    b'0' + n as u8
 }
 
-// A number before the line.
-fn decimal(line: Line, n: u64) -> Line
-    requires { Ready 20 line }
-    ensures { Wrote 20 (decimal n) line result }
-{
-    let mut all = line;
-    let mut rest = n;
-    while 10 <= rest {
-        all = put(all, digit(rest % 10));
-        rest = rest / 10;
+impl Line {
+    // No line yet.
+    fn empty() -> Line
+        ensures { (result ≡ line_of []) × Ready 160 result }
+    {
+        Line {
+            bytes: [0; 160],
+            at: 160,
+        }
     }
-    put(all, digit(rest))
-}
 
-// A signed number before the line.
-fn signed(line: Line, z: i16) -> Line
-    requires { Ready 21 line }
-    ensures { Wrote 21 (signed z) line result }
-{
-    let n = size(z) as u64;
-    if z < 0 {
-        return put(decimal(line, n + 1), b'-');
+    // Bytes before the line.
+    fn word(self, bytes: &[u8]) -> Line
+        requires { Ready (length bytes.now) self }
+        ensures { Wrote (length bytes.now) bytes.now self result }
+    {
+        let at = self.at - bytes.len();
+        let mut all = self.bytes;
+        all[at..self.at].copy_from_slice(bytes);
+        Line { bytes: all, at }
     }
-    decimal(line, n)
-}
 
-// A space and a number before the line.
-fn field(line: Line, n: u64) -> Line
-    requires { Ready 21 line }
-    ensures { Wrote 21 (32 ∷ decimal n) line result }
-{
-    put(decimal(line, n), b' ')
-}
-
-// A space and a signed number before the line.
-fn signed_field(line: Line, z: i16) -> Line
-    requires { Ready 22 line }
-    ensures { Wrote 22 (32 ∷ signed z) line result }
-{
-    put(signed(line, z), b' ')
-}
-
-// Bytes before the line.
-fn word(line: Line, bytes: &[u8]) -> Line
-    requires { Ready (length bytes.now) line }
-    ensures { Wrote (length bytes.now) bytes.now line result }
-{
-    let mut all = line;
-    let mut i = bytes.len();
-    while 0 < i {
-        i -= 1;
-        all = put(all, bytes[i]);
+    // A byte before the line.
+    fn put(self, byte: u8) -> Line
+        requires { Ready 1 self }
+        ensures { Wrote 1 (byte ∷ []) self result }
+    {
+        let at = self.at - 1;
+        let mut bytes = self.bytes;
+        bytes[at] = byte;
+        Line { bytes, at }
     }
-    all
+
+    // A number before the line.
+    fn decimal(self, n: u64) -> Line
+        requires { Ready 20 self }
+        ensures { Wrote 20 (decimal n) self result }
+    {
+        let mut line = self;
+        let mut rest = n;
+        while 10 <= rest {
+            line = line.put(digit(rest % 10));
+            rest /= 10;
+        }
+        line.put(digit(rest))
+    }
+
+    // A signed number before the line.
+    fn signed(self, z: i16) -> Line
+        requires { Ready 21 self }
+        ensures { Wrote 21 (signed z) self result }
+    {
+        let line = self.decimal(u64::from(z.unsigned_abs()));
+        if z < 0 { line.put(b'-') } else { line }
+    }
+
+    // A space and a number before the line.
+    fn field(self, n: u64) -> Line
+        requires { Ready 21 self }
+        ensures { Wrote 21 (32 ∷ decimal n) self result }
+    {
+        self.decimal(n).put(b' ')
+    }
+
+    // A space and a signed number before the line.
+    fn signed_field(self, z: i16) -> Line
+        requires { Ready 22 self }
+        ensures { Wrote 22 (32 ∷ signed z) self result }
+    {
+        self.signed(z).put(b' ')
+    }
 }
 
 // The line of a block.
@@ -114,25 +105,25 @@ pub fn block_line(
 ) -> Line
     ensures { result ≡ line_of (block_line take block mode count first last limited) }
 {
-    let end = field(put(empty(), b'\n'), limited as u64);
-    let samples = signed_field(signed_field(end, last), first);
-    let counted = field(field(samples, count as u64), mode as u64);
-    decimal(field(counted, block as u64), take as u64)
+    let end = Line::empty().put(b'\n').field(u64::from(limited));
+    let samples = end.signed_field(last).signed_field(first);
+    let counted = samples.field(count as u64).field(u64::from(mode));
+    counted.field(u64::from(block)).decimal(u64::from(take))
 }
 
 // The line of a refusal after so many blocks.
 pub fn refused_line(number: u8, blocks: u64) -> Line
     ensures { result ≡ line_of (refused_line number blocks) }
 {
-    let end = put(empty(), b'\n');
-    let numbers = field(field(end, blocks), number as u64);
-    word(numbers, b"refused")
+    let end = Line::empty().put(b'\n');
+    let numbers = end.field(blocks).field(u64::from(number));
+    numbers.word(b"refused")
 }
 
 // The line of an overload.
 pub fn overload_line(limited: u64) -> Line
     ensures { result ≡ line_of (overload_line limited) }
 {
-    let end = word(put(empty(), b'\n'), b" sums limited");
-    word(field(end, limited), b"overload:")
+    let end = Line::empty().put(b'\n').word(b" sums limited");
+    end.field(limited).word(b"overload:")
 }

@@ -15,7 +15,7 @@ use Rattle.playing.specs.Run.{Playing, onward, after}
 use Rattle.playing.proofs.Enough.{AllRead, Ready, stays_ready, ready_after, fresh_ready}
 use Rattle.playing.proofs.Said.{said, is_said, next_said}
 use Rattle.playing.specs.declared.Player.{Player}
-use Rattle.playing.specs.declared.Played.{Played}
+use Rattle.playing.specs.Answer.{Played}
 use Rattle.listing.specs.Listed.{listed}
 use Rattle.listing.specs.Listing.{pieces, start, lines_from, listing}
 use Rattle.listing.proofs.Turns.{pieces_none, pieces_some}

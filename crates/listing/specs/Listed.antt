@@ -1,7 +1,7 @@
 -- What the listing says of a block that was played after so many others.
 -- Assumes nothing.
 use Rattle.std.specs.Prelude.{cond, List, ℕ, eqb}
-use Rattle.playing.specs.declared.Played.{Played}
+use Rattle.playing.specs.Answer.{Played}
 use Rattle.lines.specs.Lines.{block_line, refused_line}
 
 unfoldable pub listed : Played → ℕ → List ℕ

@@ -42,9 +42,9 @@ fn taps(phase: usize, x: &[i16; 171], i: usize) -> i32
     ensures { (result ≡ taps_at phase (nth x.now) i) × (nat_abs result ≤ 6482 * 32768) }
 {
     let h = H;
-    let mut sum: i32 = 0;
+    let mut sum = 0;
     for j in 0..12 {
-        sum = sum + wide(h[2 * j + phase]) * wide(x[i + 11 - j]);
+        sum += wide(h[2 * j + phase]) * wide(x[i + 11 - j]);
     }
     sum
 }
@@ -53,11 +53,5 @@ fn taps(phase: usize, x: &[i16; 171], i: usize) -> i32
 fn fits(samples: usize, low: usize, high: usize) -> bool
     ensures { result ≡ block_fits samples low high }
 {
-    if 160 < low {
-        return false;
-    }
-    if samples != 2 * low {
-        return false;
-    }
-    high == low
+    low <= 160 && samples == 2 * low && high == low
 }

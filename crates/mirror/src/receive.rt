@@ -15,15 +15,13 @@ fn join_rows(xd: &[i16; 171], xs: &[i16; 171], n: usize, samples: &mut [i16]) ->
     requires samples_len { length samples.old ≡ 2 * n }
     ensures { Does (rows_joined xd.now xs.now n) result samples.new }
 {
-    let mut limited: u32 = 0;
+    let mut limited = 0;
     for i in 0..n {
         let first = limit(taps(0, xd, i) >> 12);
         let second = limit(taps(1, xs, i) >> 12);
-        let x = first.value;
-        let y = second.value;
-        samples[2 * i] = x;
-        samples[2 * i + 1] = y;
-        limited = limited + changes(first, second);
+        samples[2 * i] = first.value;
+        samples[2 * i + 1] = second.value;
+        limited += changes(first, second);
     }
     limited
 }
@@ -33,25 +31,20 @@ pub fn join(past: Pairs, low: &[i16], high: &[i16], samples: &mut [i16]) -> Join
     ensures { Does (join_block past low.now high.now samples.old) result samples.new }
 {
     if !fits(samples.len(), low.len(), high.len()) {
-        return Joined {
-            limited: 0,
-            past: past,
-        };
+        return Joined { limited: 0, past };
     }
     let n = low.len();
-    let past_rl = past.rl;
-    let past_rh = past.rh;
     let mut xd = [1i16; 171];
     let mut xs = [1i16; 171];
-    cross(&mut xd, &mut xs, 0, &past_rl, &past_rh);
+    cross(&mut xd, &mut xs, 0, &past.rl, &past.rh);
     cross(&mut xd, &mut xs, 11, low, high);
     let limited = join_rows(&xd, &xs, n, samples);
     let next = Pairs {
-        rl: last(past_rl, low),
-        rh: last(past_rh, high),
+        rl: last(past.rl, low),
+        rh: last(past.rh, high),
     };
     Joined {
-        limited: limited,
+        limited,
         past: next,
     }
 }

@@ -4,6 +4,7 @@ ghost use Rattle.g722.specs.Arithmetic.{add, sub};
 ghost use Rattle.mirror.specs.Rows.{nth, in_turn, Holds, Crossed};
 
 use arith::{add, sub};
+use std::array;
 
 // One sample of each pair, the earlier ones in phase 0 and the later ones in phase 1: of the past pairs, then of the new ones.
 pub(crate) fn deal(row: &mut [i16], phase: usize, past: &[i16; 22], samples: &[i16])
@@ -15,12 +16,10 @@ pub(crate) fn deal(row: &mut [i16], phase: usize, past: &[i16; 22], samples: &[i
         (11 + length samples.now / 2) }
 {
     for i in 0..11 {
-        let v = past[2 * i + phase];
-        row[i] = v;
+        row[i] = past[2 * i + phase];
     }
     for i in 0..samples.len() / 2 {
-        let v = samples[2 * i + phase];
-        row[11 + i] = v;
+        row[11 + i] = samples[2 * i + phase];
     }
 }
 
@@ -29,14 +28,10 @@ pub(crate) fn kept(even: &[i16; 171], odd: &[i16; 171], n: usize) -> [i16; 22]
     requires { n ≤ 160 }
     ensures { result ≡ in_turn (λ (k : ℕ). nth even.now (n + k)) (λ (k : ℕ). nth odd.now (n + k)) 0 11 }
 {
-    let mut past: [i16; 22] = [0; 22];
-    for i in 0..11 {
-        let x = even[n + i];
-        let y = odd[n + i];
-        past[2 * i] = x;
-        past[2 * i + 1] = y;
-    }
-    past
+    array::from_fn(|k| {
+        let row = if k % 2 == 0 { even } else { odd };
+        row[n + k / 2]
+    })
 }
 
 // XD and XS of pairs, stored from place at on.
@@ -61,16 +56,8 @@ pub(crate) fn cross(xd: &mut [i16], xs: &mut [i16], at: usize, low: &[i16], high
 pub(crate) fn last(past: [i16; 11], x: &[i16]) -> [i16; 11]
     ensures { result ≡ drop (length x.now) (past ++ x.now) }
 {
-    let mut next: [i16; 11] = [0; 11];
-    for i in 0..11 {
+    array::from_fn(|i| {
         let k = x.len() + i;
-        if k < 11 {
-            let v = past[k];
-            next[i] = v;
-        } else {
-            let v = x[k - 11];
-            next[i] = v;
-        }
-    }
-    next
+        if k < 11 { past[k] } else { x[k - 11] }
+    })
 }

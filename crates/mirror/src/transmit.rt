@@ -15,17 +15,15 @@ fn split_rows(even: &[i16; 171], odd: &[i16; 171], low: &mut [i16], high: &mut [
     ensures { Does (rows_split even.now odd.now (length low.old)) result
         (low.new, high.new) }
 {
-    let mut limited: u32 = 0;
+    let mut limited = 0;
     for i in 0..low.len() {
         let xa = taps(0, odd, i);
         let xb = taps(1, even, i);
         let xl = limit((xa + xb) >> 13);
         let xh = limit((xa - xb) >> 13);
-        let l = xl.value;
-        let h = xh.value;
-        low[i] = l;
-        high[i] = h;
-        limited = limited + changes(xl, xh);
+        low[i] = xl.value;
+        high[i] = xh.value;
+        limited += changes(xl, xh);
     }
     limited
 }
@@ -36,10 +34,7 @@ pub fn split(past: [i16; 22], samples: &[i16], low: &mut [i16], high: &mut [i16]
         (low.new, high.new) }
 {
     if !fits(samples.len(), low.len(), high.len()) {
-        return Parted {
-            limited: 0,
-            past: past,
-        };
+        return Parted { limited: 0, past };
     }
     let n = low.len();
     let mut even = [1i16; 171];
@@ -48,7 +43,7 @@ pub fn split(past: [i16; 22], samples: &[i16], low: &mut [i16], high: &mut [i16]
     deal(&mut odd, 1, &past, samples);
     let limited = split_rows(&even, &odd, low, high);
     Parted {
-        limited: limited,
+        limited,
         past: kept(&even, &odd, n),
     }
 }

@@ -1,7 +1,6 @@
 -- Laws of the loops over ports, on plain values: what one port more adds to a table and to the rows beside it.
 -- Assumes nothing.
 use mathlib.Core.Path.{◌≡◌, refl, sym, ap, ◌∙◌}
-use mathlib.Core.Bool.{Bool, ◌&&◌, and_assoc, and-true}
 use mathlib.Core.List.{List, [], ◌∷◌, zip, zip_with}
 use Prim.Native.Nat.{ℕ, ◌+◌, ◌≤◌, ◌<◌}
 use native.Mathlib.Numerals.{add-one}
@@ -18,7 +17,6 @@ use Rattle.g722.specs.declared.Decoder.{Decoder}
 use Rattle.g722.specs.declared.Limited.{Limited}
 use Rattle.conference.specs.Sums.{sum_of, others_of, sums_of, mixed}
 use Rattle.conference.specs.Ports.{rl_from, rh_from, rls_from, rhs_from, octet_to, coder_to, each_port}
-use Rattle.conference.specs.Tick.{all_good}
 use Rattle.port.specs.Step.{heard_of, sent_of}
 use Rattle.conference.proofs.Rows.{zip_length, zip_at, pairs_length, pairs_at, each_not_yet, each_one_more}
 use Rattle.conference.proofs.Total.{others_total, sums_length, sums_at, mixed_length, mixed_at}
@@ -154,15 +152,3 @@ module _ (t₀ : List Coder) (low high : List ℤ) (l : length high ≡ length l
         (λ j. (e j).octet)
         ∙ (λ j. octet_to (f j) (sym pair_at j))
         ∙ sym (zip_at octet_to t₀ (heards low high) i a (pos 0, pos 0) 0 q r)
-
--- ---- whether all are good
-
-module _ {A : Type 0} (good : A → Bool) (row : List A) (i : ℕ) (ok : Bool) where
-  pub good_turn : (a : A) → i < length row
-      → ((ok && good (get_or row i a)) && all_good good (drop (i + 1) row)) ≡ (ok && all_good good (drop i row))
-  unfolding all_good
-  good_turn a h = and_assoc ok _ _ ∙ ap (λ (l : List A). ok && all_good good l) (sym (drop_one row i a h))
-
-  pub good_end : length row ≤ i → ok ≡ (ok && all_good good (drop i row))
-  unfolding all_good
-  good_end h = rw (drop_of_length-le row h) (sym (and-true ok))

@@ -1,20 +1,17 @@
 // What a tick looks at before it does anything.
 ghost use Rattle.std.specs.Prelude.{◌≡◌};
-ghost use Rattle.conference.specs.Tick.{unseated, uneven, any_above, good_ports};
+ghost use Rattle.conference.specs.Tick.{unseated, uneven, any_above, good_port, good_ports};
 
-use bounds::{both, lesser};
 use coder::good_coder;
 use conference::Desk;
 use decoder::good_decoder;
+use g722::{Coder, Decoder};
 
 // Whether ports are not 2 to 8.
 pub(crate) fn unseated(ports: u8) -> bool
     ensures { result ≡ unseated ports }
 {
-    if ports < 2 {
-        return true;
-    }
-    8 < ports
+    ports < 2 || 8 < ports
 }
 
 // Whether modes, octets or room are not one for each port.
@@ -24,37 +21,38 @@ pub(crate) fn uneven(ports: usize, modes: usize, octets: usize, room: usize) -> 
     if modes != ports {
         return true;
     }
-    if octets != ports {
-        return true;
-    }
-    room != ports
+    octets != ports || room != ports
 }
 
 // Whether a told mode is above 3.
 pub(crate) fn any_above(modes: &[u8]) -> bool
     ensures { result ≡ any_above modes.now }
 {
-    for i in 0..modes.len() {
-        if 3 < modes[i] {
+    for mode in modes {
+        if 3 < *mode {
             return true;
         }
     }
     false
 }
 
-// Whether the records of every port in use keep their bounds.
+// Whether the records of a port keep their bounds.
+#[tactic(auto, unfolding(conference::specs::Tick::good_port))]
+fn good_port(coder: &Coder, decoder: &Decoder) -> bool
+    ensures { result ≡ good_port (coder.now, decoder.now) }
+{
+    good_coder(*coder) && good_decoder(*decoder)
+}
+
+// Whether those of every port in use do.
 pub(crate) fn good_ports(desk: Desk) -> bool
     ensures { result ≡ good_ports desk }
 {
-    let ports = desk.ports as usize;
-    let n = lesser(ports, 8);
-    let coders = desk.coders;
-    let decoders = desk.decoders;
-    let mut ok = true;
-    for i in 0..n {
-        let c = coders[i];
-        let d = decoders[i];
-        ok = both(ok, both(good_coder(c), good_decoder(d)));
+    let n = (desk.ports as usize).min(8);
+    for (coder, decoder) in desk.coders[..n].iter().zip(&desk.decoders[..n]) {
+        if !good_port(coder, decoder) {
+            return false;
+        }
     }
-    ok
+    true
 }

@@ -4,16 +4,18 @@
 mod check;
 mod sums;
 
-ghost use Rattle.std.specs.Prelude.{◌≡◌, ◌≤◌, length};
+ghost use Rattle.std.specs.Prelude.{◌≡◌, ◌≤◌, length, Ok};
 ghost use Rattle.laws.specs.Outcome.{Does};
-ghost use Rattle.conference.specs.Tick.{ticked, tick_call, reset_call};
+ghost use Rattle.g722.specs.Answers.{answered};
+ghost use Rattle.conference.specs.Answers.{reset_as};
+ghost use Rattle.conference.specs.Tick.{ticked, tick_call, reset_desk, reset_call};
 ghost use Rattle.mixer.specs.Run.{hear_run, send_run};
 
 use check::{any_above, good_ports, uneven, unseated};
-use conference::{Desk, Ticked};
-use g722::{Coder, Decoder};
+use conference::Desk;
+use g722::{Accepted, Coder, Decoder, Refusal};
 use place::updated;
-use port::{heard, sent};
+use port::{Signals, heard, sent};
 use sums::{others, total};
 
 // All that the ports are sent: how many of their sums were limited, and the coders after it.
@@ -23,33 +25,18 @@ struct Mixed {
     coders: [Coder; 8],
 }
 
-// The answer of a call.
-fn answer(number: u8, limited: u32, desk: Desk) -> Ticked
-    ensures { result ≡ record { number = number; index = 0; limited = limited; next = desk } }
-{
-    Ticked {
-        number: number,
-        index: 0,
-        limited: limited,
-        next: desk,
-    }
-}
-
 // A desk of so many ports, or 9.
-pub fn reset(ports: u8) -> Ticked
-    ensures { result ≡ reset_call ports }
+pub fn reset(ports: u8) -> Result<Desk, Refusal>
+    ensures { reset_as (reset_desk ports) result ≡ reset_call ports }
 {
-    let c = coder::reset();
-    let d = decoder::reset();
-    let fresh = Desk {
-        ports: ports,
-        coders: [c; 8],
-        decoders: [d; 8],
-    };
     if unseated(ports) {
-        return answer(9, 0, fresh);
+        return Err(Refusal::Ports);
     }
-    answer(0, 0, fresh)
+    Ok(Desk {
+        ports,
+        coders: [coder::reset(); 8],
+        decoders: [decoder::reset(); 8],
+    })
 }
 
 // Every port's octet through its decoder's first step. Each record is updated where it stands.
@@ -68,11 +55,7 @@ fn hear_all(
 {
     let mut t = decoders;
     for i in 0..octets.len() {
-        let d = t[i];
-        let h = heard(d, modes[i], octets[i]);
-        let rl = h.rl;
-        let rh = h.rh;
-        let next = h.next;
+        let Signals { rl, rh, next } = heard(t[i], modes[i], octets[i]);
         low[i] = rl;
         high[i] = rh;
         t = updated(t, i, next);
@@ -92,18 +75,12 @@ fn send_all(coders: [Coder; 8], low: &[i16], high: &[i16], room: &mut [u8]) -> M
     let mut t = coders;
     let mut limited: u32 = 0;
     for i in 0..room.len() {
-        let c = t[i];
-        let s = sent(c, others(all_low, low[i]), others(all_high, high[i]));
-        let octet = s.octet;
-        let next = s.next;
-        room[i] = octet;
-        t[i] = next;
-        limited = limited + s.limited;
+        let s = sent(t[i], others(all_low, low[i]), others(all_high, high[i]));
+        room[i] = s.octet;
+        t[i] = s.next;
+        limited += s.limited;
     }
-    Mixed {
-        limited: limited,
-        coders: t,
-    }
+    Mixed { limited, coders: t }
 }
 
 // All are heard, and then all are sent to, with lent room for the signals on their way.
@@ -114,34 +91,33 @@ fn in_turn(
     low: &mut [i16],
     high: &mut [i16],
     room: &mut [u8],
-) -> Ticked
+) -> Accepted<Desk>
     requires octets_len_bound { length octets.now ≤ 8 }
     requires modes_len { length modes.now ≡ length octets.now }
     requires low_len { length low.old ≡ length octets.now }
     requires high_len { length high.old ≡ length octets.now }
     requires room_len { length room.old ≡ length octets.now }
-    ensures { Does (ticked desk modes.now octets.now) result room.new }
+    ensures { Does (ticked desk modes.now octets.now) (answered desk (Ok result)) room.new }
 {
-    let decoders = desk.decoders;
-    let coders = desk.coders;
-    let heard = hear_all(decoders, modes, octets, low, high);
-    let sent = send_all(coders, low, high, room);
-    let ports = desk.ports;
-    let coders_next = sent.coders;
-    let next = Desk {
-        ports: ports,
-        coders: coders_next,
-        decoders: heard,
-    };
-    answer(0, sent.limited, next)
+    let decoders = hear_all(desk.decoders, modes, octets, low, high);
+    let sent = send_all(desk.coders, low, high, room);
+    let coders = sent.coders;
+    Accepted {
+        limited: sent.limited,
+        next: Desk {
+            ports: desk.ports,
+            coders,
+            decoders,
+        },
+    }
 }
 
 // A tick that is not refused, with room of its own for the signals.
-fn run(desk: Desk, modes: &[u8], octets: &[u8], room: &mut [u8]) -> Ticked
+fn run(desk: Desk, modes: &[u8], octets: &[u8], room: &mut [u8]) -> Accepted<Desk>
     requires octets_len_bound { length octets.now ≤ 8 }
     requires modes_len { length modes.now ≡ length octets.now }
     requires room_len { length room.old ≡ length octets.now }
-    ensures { Does (ticked desk modes.now octets.now) result room.new }
+    ensures { Does (ticked desk modes.now octets.now) (answered desk (Ok result)) room.new }
 {
     let n = octets.len();
     let mut low = [0i16; 8];
@@ -150,25 +126,25 @@ fn run(desk: Desk, modes: &[u8], octets: &[u8], room: &mut [u8]) -> Ticked
 }
 
 // A tick: an octet and a told mode from every port, and room for an octet to each.
-pub fn tick(desk: Desk, modes: &[u8], octets: &[u8], room: &mut [u8]) -> Ticked
-    ensures { Does (tick_call desk modes.now octets.now room.old) result room.new }
+pub fn tick(
+    desk: Desk,
+    modes: &[u8],
+    octets: &[u8],
+    room: &mut [u8],
+) -> Result<Accepted<Desk>, Refusal>
+    ensures { Does (tick_call desk modes.now octets.now room.old) (answered desk result) room.new }
 {
-    let ports = desk.ports;
-    let no_desk = unseated(ports);
-    let unfit = uneven(ports as usize, modes.len(), octets.len(), room.len());
-    let no_mode = any_above(modes);
-    let good = good_ports(desk);
+    let no_desk = unseated(desk.ports);
+    let unfit = uneven(desk.ports as usize, modes.len(), octets.len(), room.len());
     if no_desk {
-        return answer(9, 0, desk);
+        Err(Refusal::Ports)
+    } else if unfit {
+        Err(Refusal::Length)
+    } else if any_above(modes) {
+        Err(Refusal::Mode)
+    } else if !good_ports(desk) {
+        Err(Refusal::Record)
+    } else {
+        Ok(run(desk, modes, octets, room))
     }
-    if unfit {
-        return answer(3, 0, desk);
-    }
-    if no_mode {
-        return answer(1, 0, desk);
-    }
-    if !good {
-        return answer(2, 0, desk);
-    }
-    run(desk, modes, octets, room)
 }

@@ -11,9 +11,9 @@ pub(crate) fn total(signals: &[i16]) -> i32
     requires { length signals.now ≤ 8 }
     ensures { (result ≡ sum_of signals.now) × (nat_abs result ≤ 262144) }
 {
-    let mut sum: i32 = 0;
-    for i in 0..signals.len() {
-        sum = sum + wide(signals[i]);
+    let mut sum = 0;
+    for signal in signals {
+        sum += wide(*signal);
     }
     sum
 }

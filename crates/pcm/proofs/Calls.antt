@@ -8,8 +8,7 @@ use native.Mathlib.Omega.{arith}
 use borrow.Author.Tests.{lt-ltb, le-ltb, eq-eqb, ne_eqb}
 use lib.Dec.{ltb, eqb}
 use lib.IntN.{ℤ}
-use lib.ListN.{length, take}
-use lib.Seq.{length-take-le}
+use lib.ListN.{length}
 use Rattle.laws.specs.Order.{by_test}
 use Rattle.laws.specs.Outcome.{Outcome}
 use Rattle.g722.specs.Quantise.{in_force}
@@ -18,13 +17,24 @@ use Rattle.g722.specs.Coding.{misfit, not_coded, code_call}
 use Rattle.g722.specs.Decoding.{not_decoded, decoded, decode_call}
 use Rattle.g722.specs.declared.Coder.{Coder}
 use Rattle.g722.specs.declared.Decoder.{Decoder}
-use Rattle.g722.specs.declared.Decoded.{Decoded}
+use Rattle.g722.specs.Answers.{Decoded}
+use Rattle.g722.specs.Refused.{number_of}
+use Rattle.g722.specs.declared.Refusal.{Refusal}
+use Rattle.g722.specs.declared.Refusal.TheVariants.{Mode, Record, Length, Sample, DataChannel, BlockSize, Check, Contents, Ports}
 use Rattle.big_endian.specs.Bytes.{pcm_samples, samples_length}
 use Rattle.pcm.specs.Chunks.{encode_chunk, not_stored, as_bytes, decode_chunk}
 
--- a part of the samples that has two for each octet
-pub part : (n b : ℕ) (z : List ℤ) → b ≡ 4 * n → 2 * n ≤ length z → b ≡ 2 * length (take (2 * n) z)
-part n b z e h = rw (length-take-le (2 * n) z h) (omega arith)
+-- a refusal has a number
+pub refuses : (r : Refusal) → number_of r ≡ 0 → ⊥
+refuses Mode e = omega arith
+refuses Record e = omega arith
+refuses Length e = omega arith
+refuses (Sample i) e = omega arith
+refuses DataChannel e = omega arith
+refuses BlockSize e = omega arith
+refuses Check e = omega arith
+refuses Contents e = omega arith
+refuses Ports e = omega arith
 
 -- ---- the coding call, case by case
 

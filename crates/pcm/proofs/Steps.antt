@@ -8,8 +8,7 @@ use native.Mathlib.Omega.{arith}
 use borrow.Author.Tests.{lt-ltb, le-ltb, ltb-true, ltb-false, eq-eqb, ne_eqb, eqb-true, eqb-false}
 use lib.Dec.{ltb, eqb}
 use lib.IntN.{ℤ}
-use lib.ListN.{length, take}
-use lib.Seq.{length-take-le}
+use lib.ListN.{length}
 use Rattle.laws.specs.Order.{no, by_test}
 use Rattle.laws.specs.Outcome.{Outcome}
 use Rattle.g722.specs.Quantise.{in_force}
@@ -17,7 +16,7 @@ use Rattle.g722.specs.Records.{good_decoder}
 use Rattle.g722.specs.Coding.{misfit}
 use Rattle.g722.specs.Steps.{unpaired, not_heard, heard, hear_call, first_bad_pair, not_joined, joined, join_call}
 use Rattle.g722.specs.declared.Decoder.{Decoder}
-use Rattle.g722.specs.declared.Decoded.{Decoded}
+use Rattle.g722.specs.Answers.{Decoded}
 use Rattle.big_endian.specs.Bytes.{pcm_samples, pcm_bytes, samples_length}
 use Rattle.pcm.specs.Chunks.{not_stored, as_bytes}
 use Rattle.pcm.specs.Signals.{unpaired_bytes, not_heard_bytes, both_as_bytes, hear_chunk, unjoined_bytes, bad_pair, join_signals, join_chunk}
@@ -97,12 +96,6 @@ pub both_stored : {l h : List ℕ} {x y : List ℤ} {p : List ℤ × List ℤ}
 both_stored e f g = (λ i. (f i, g i)) ∙ ap (λ (p : List ℤ × List ℤ). (pcm_bytes p.0, pcm_bytes p.1)) e
 
 -- ---- the second step, case by case
-
--- parts of the arrays on the way: one low and one high signal a pair, and two samples
-pub parts : (n l h s : ℕ) (x y z : List ℤ) → n ≤ length x → n ≤ length y → 2 * n ≤ length z → l ≡ 2 * n → h ≡ 2 * n → s ≡ 4 * n
-    → (l ≡ 2 * length (take n x)) × (h ≡ 2 * length (take n x)) × (length (take n y) ≡ length (take n x))
-    × (length (take (2 * n) z) ≡ 2 * length (take n x)) × (s ≡ 4 * length (take n x))
-parts n l h s x y z a b c k m p = rw (length-take-le n x a, length-take-le n y b, length-take-le (2 * n) z c) (k, m, refl, refl, p)
 
 module _ (d : Decoder) (l h s : List ℕ) where
   pub join_unfit : unpaired_bytes (length l / 2) (length l) (length h) ≡ true → join_chunk d l h s ≡ not_stored 3 d s

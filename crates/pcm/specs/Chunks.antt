@@ -9,9 +9,8 @@ use Rattle.g722.specs.Records.{in_range, good_coder, good_decoder}
 use Rattle.g722.specs.Coding.{first_bad, misfit, not_coded, coded, code_call}
 use Rattle.g722.specs.Decoding.{decoded}
 use Rattle.g722.specs.declared.Coder.{Coder}
-use Rattle.g722.specs.declared.Coded.{Coded}
+use Rattle.g722.specs.Answers.{Coded, Decoded}
 use Rattle.g722.specs.declared.Decoder.{Decoder}
-use Rattle.g722.specs.declared.Decoded.{Decoded}
 use Rattle.big_endian.specs.Bytes.{pcm_samples, pcm_bytes}
 
 -- four bytes an octet, else 3

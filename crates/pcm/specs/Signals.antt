@@ -8,7 +8,7 @@ use Rattle.g722.specs.Quantise.{in_force}
 use Rattle.g722.specs.Records.{good_decoder}
 use Rattle.g722.specs.Steps.{heard, first_bad_pair, joined}
 use Rattle.g722.specs.declared.Decoder.{Decoder}
-use Rattle.g722.specs.declared.Decoded.{Decoded}
+use Rattle.g722.specs.Answers.{Decoded}
 use Rattle.big_endian.specs.Bytes.{pcm_samples, pcm_bytes}
 use Rattle.pcm.specs.Chunks.{not_stored, as_bytes, samples_within}
 

@@ -4,6 +4,5 @@
 mod chunk;
 mod signals;
 
-use chunk::not_decoded;
 pub use chunk::{decode_chunk, encode_chunk};
 pub use signals::{hear_chunk, join_chunk};

@@ -1,40 +1,39 @@
 -- Laws of a signal coded and of an octet heard, on plain values.
 -- Assumes nothing.
-use mathlib.Core.Path.{◌≡◌, ap, ◌∙◌}
+use mathlib.Core.Path.{◌≡◌, ◌∙◌}
 use Prim.Native.Nat.{ℕ}
 use lib.IntN.{ℤ}
 use Rattle.g722.specs.Arithmetic.{add, sub, limited}
-use Rattle.g722.specs.Band.{predic, recons, next_band}
+use Rattle.g722.specs.Band.{recons}
 use Rattle.g722.specs.Octet.{octet}
-use Rattle.g722.specs.declared.Factors.{Factors}
 use Rattle.g722.specs.declared.Limited.{Limited}
 use Rattle.g722.specs.declared.Band.{Band}
 use Rattle.band.specs.declared.Estimates.{Estimates}
 use Rattle.band.specs.Loop.{estimated, adapted, halves}
+use Rattle.quant.specs.Own.{Own, word_of, difference_of, factors_of}
 use Rattle.plain.specs.declared.Word.{Word}
 use Rattle.plain.specs.declared.Banded.{Banded}
 use Rattle.plain.specs.declared.Signal.{Signal}
-use Rattle.plain.specs.Step.{low_coded, high_coded, bands_coded}
+use Rattle.plain.specs.Step.{after_in, coded_in, heard_in, low_coded, high_coded, bands_coded}
 
--- ---- one band coded, low or high: its word and the band after it, step by step
+-- ---- one band, low or high
 
-module _ (quant : ℤ → ℤ → ℕ) (inverse : ℕ → ℤ → ℤ) (factors : Factors → ℕ → Factors) (band : Band) (x : ℤ) where
-  abbrev word : ℕ
-  word = quant (sub x (predic band)) band.factors.scale
+module _ (b : Own) (band : Band) {e : Estimates} (e≡ : e ≡ estimated band) (w : ℕ) {next : Band}
+    (next≡ : next ≡ adapted band e (difference_of b w band.factors.scale) (factors_of b band.factors w)) where
+  band_after : next ≡ after_in b band w
+  unfolding after_in
+  band_after = next≡ ∙ (λ i. adapted band (e≡ i) (difference_of b w band.factors.scale) (factors_of b band.factors w)) ∙ halves band _ _
 
-  pub band_coded : {e : Estimates} {s scale x' error d : ℤ} {w : ℕ} {f : Factors} {next : Band}
-      → e ≡ estimated band → s ≡ e.s → scale ≡ band.factors.scale → x' ≡ x → error ≡ sub x' s → w ≡ quant error scale
-      → d ≡ inverse w scale → f ≡ factors band.factors w → next ≡ adapted band e d f
-      → ◌≡◌ {A = Word} (record { word = w; next = next })
-      (record { word = word; next = next_band band (inverse word band.factors.scale) (factors band.factors word) })
-  unfolding estimated
-  band_coded e≡ s≡ scale≡ x≡ error≡ w≡ d≡ f≡ next≡ =
-      let error = error≡ ∙ λ i. sub (x≡ i) ((s≡ ∙ ap (λ (t : Estimates). t.s) e≡) i) in
-      let w = w≡ ∙ λ i. quant (error i) (scale≡ i) in
-      let d = d≡ ∙ λ i. inverse (w i) (scale≡ i) in
-      let f = f≡ ∙ λ i. factors band.factors (w i) in
-      let next = next≡ ∙ (λ i. adapted band (e≡ i) (d i) (f i)) ∙ halves band _ _ in
-      λ i. record { word = w i; next = next i }
+  pub band_coded : (x : ℤ) → w ≡ word_of b (sub x e.s) band.factors.scale → ◌≡◌ {A = Word} (record { word = w; next = next }) (coded_in b band x)
+  unfolding coded_in estimated
+  band_coded x w≡ =
+      let word = w≡ ∙ λ i. word_of b (sub x (e≡ i).s) band.factors.scale in
+      λ i. record { word = word i; next = (band_after ∙ λ j. after_in b band (word j)) i }
+
+  pub band_heard : (d : ℤ) {signal : Limited} → signal ≡ limited (add e.s d)
+      → ◌≡◌ {A = Signal} (record { signal = signal; next = next }) (heard_in b band w d)
+  unfolding heard_in estimated recons
+  band_heard d signal≡ = λ i. record { signal = (signal≡ ∙ λ j. limited (add (e≡ j).s d)) i; next = band_after i }
 
 -- ---- both bands coded
 
@@ -45,17 +44,3 @@ unfolding bands_coded low_coded high_coded
 signals_coded low high xl xh l≡ h≡ o≡ =
     let o = o≡ ∙ λ i. octet (h≡ i).word (l≡ i).word in
     λ i. record { octet = o i; low = (l≡ i).next; high = (h≡ i).next }
-
--- ---- one band heard, low or high: its signal and the band after it, step by step
-
-pub band_heard : (band : Band) (heard looped : ℤ) (factors : Factors)
-    {e : Estimates} {s q y d : ℤ} {signal : Limited} {f : Factors} {next : Band}
-    → e ≡ estimated band → s ≡ e.s → q ≡ heard → y ≡ add s q → signal ≡ limited y → d ≡ looped → f ≡ factors → next ≡ adapted band e d f
-    → ◌≡◌ {A = Signal} (record { signal = signal; next = next })
-    (record { signal = limited (recons band heard); next = next_band band looped factors })
-unfolding estimated recons
-band_heard band heard looped factors e≡ s≡ q≡ y≡ signal≡ d≡ f≡ next≡ =
-    let y = y≡ ∙ λ i. add ((s≡ ∙ ap (λ (t : Estimates). t.s) e≡) i) (q≡ i) in
-    let signal = signal≡ ∙ ap limited y in
-    let next = next≡ ∙ (λ i. adapted band (e≡ i) (d≡ i) (f≡ i)) ∙ halves band looped factors in
-    λ i. record { signal = signal i; next = next i }

@@ -1,26 +1,30 @@
 // The sub-band decoders: an octet to the heard signal of either band.
 ghost use Rattle.std.specs.Prelude.{◌≡◌};
-ghost use Rattle.plain.specs.Step.{low_heard, high_heard};
+ghost use Rattle.plain.specs.Step.{heard_in, low_heard, high_heard};
 
-use crate::Signal;
-use arith::{add, limit, wide};
-use band::{adapt, estimate};
+use crate::{Signal, after};
+use arith::{add, limit};
+use band::estimate;
 use g722::Band;
-use quant::{high_factors, invqah, invqal, invqbl, low_factors};
+use quant::{High, Low, SubBand, invqbl};
 
-// The low band's heard signal, by the mode in force. The loop goes by the upper four bits whatever the mode.
+// A band's signal where the difference d is heard, and the band after its word. The loop goes by the word, whatever is heard.
+fn heard<B: SubBand>(s: Band, word: u8, d: i16) -> Signal
+    ensures { result ≡ heard_in B.own s word d }
+{
+    let e = estimate(s);
+    Signal {
+        signal: limit(i32::from(add(e.s, d))),
+        next: after::<B>(s, e, word),
+    }
+}
+
+// The low band's heard signal, by the mode in force.
 pub fn low_heard(mode: u8, s: Band, o: u8) -> Signal
     ensures { result ≡ low_heard mode s o }
 {
     let il = o % 64;
-    let f = s.factors;
-    let scale = f.scale;
-    let e = estimate(s);
-    let heard = invqbl(mode, il, scale);
-    Signal {
-        signal: limit(wide(add(e.s, heard))),
-        next: adapt(s, e, invqal(il, scale), low_factors(f, il)),
-    }
+    heard::<Low>(s, il, invqbl(mode, il, s.factors.scale))
 }
 
 // The high band's.
@@ -28,12 +32,5 @@ pub fn high_heard(s: Band, o: u8) -> Signal
     ensures { result ≡ high_heard s o }
 {
     let ih = o / 64;
-    let f = s.factors;
-    let scale = f.scale;
-    let e = estimate(s);
-    let d = invqah(ih, scale);
-    Signal {
-        signal: limit(wide(add(e.s, d))),
-        next: adapt(s, e, d, high_factors(f, ih)),
-    }
+    heard::<High>(s, ih, High::invqa(ih, s.factors.scale))
 }

@@ -10,7 +10,7 @@ use lib.IntN.{ℤ, pos}
 use lib.ListN.{length, get_or, take, drop, length-drop}
 use lib.Seq.{length-take-le}
 use borrow.Author.Tests.{le-ltb, eq-eqb, ne_eqb}
-use Rattle.laws.specs.Outcome.{Does, does}
+use Rattle.laws.specs.Outcome.{Outcome, Does, does}
 use Rattle.g722.specs.Arithmetic.{overloads}
 use Rattle.g722.specs.Quantise.{in_force}
 use Rattle.g722.specs.Records.{good_decoder}
@@ -18,15 +18,20 @@ use Rattle.g722.specs.Coding.{misfit}
 use Rattle.g722.specs.Decoding.{decoded}
 use Rattle.g722.specs.Steps.{rls_of, rhs_of, heard_after, unpaired, heard, hear_call, joined, join_call}
 use Rattle.g722.specs.declared.Decoder.{Decoder}
-use Rattle.g722.specs.declared.Decoded.{Decoded}
+use Rattle.std.proofs.Common.{Result, Ok, Err}
+use Rattle.g722.specs.Answers.{Answer, Decoded, answered}
+use Rattle.g722.specs.Refused.{number_of, index_of}
+use Rattle.g722.proofs.Tells.{refused_number}
+use Rattle.g722.specs.declared.Accepted.{Accepted}
+use Rattle.g722.specs.declared.Refusal.{Refusal}
 use Rattle.facts.specs.Steps.{full_in_steps, samples_in_steps, record_in_steps}
 use Rattle.facts.specs.Signals.{rls_length, rhs_length, rls_in_range, rhs_in_range, no_bad_pair, heard_good}
 use Rattle.block.specs.Calls.{read_call}
 use Rattle.block.specs.Formed.{Allowed}
-use Rattle.block.specs.declared.BlockRead.{BlockRead}
-use Rattle.playing.specs.Play.{decoder_for, reported, played_from, play_call}
+use Rattle.block.specs.Read.{BlockRead}
+use Rattle.playing.specs.Play.{decoder_for, not_played, reported, played_from, play_call}
 use Rattle.playing.proofs.PlayCalls.{Bounds, read_bounds, start_good, play_called}
-use Rattle.playing.specs.declared.Played.{Played}
+use Rattle.playing.specs.Answer.{Played, played_as}
 use Rattle.playing.specs.declared.Player.{Player}
 
 -- ---- octets heard and joined
@@ -42,14 +47,14 @@ module _ (mode : ℕ) (d : Decoder) (os : List ℕ) (says : Allowed mode (length
   few : ltb 8000 (length os) ≡ false
   few = le-ltb 8000 (length os) (omega (arith, says))
 
-  hear_run_lem : (low high : List ℤ) → length low ≡ length os → length high ≡ length os → hear_call d mode os low high ≡ heard mode d os
+  pub hear_run : (low high : List ℤ) → length low ≡ length os → length high ≡ length os → hear_call d mode os low high ≡ heard mode d os
   unfolding hear_call unpaired in_force
-  hear_run_lem low high a b =
+  hear_run low high a b =
       rw (le-ltb 3 mode says.mode_most, few, a, b, eq-eqb (length os) (length os) refl, g, ne_eqb mode 0 (λ z. omega (arith, says)))
 
-  join_run_lem : (samples : List ℤ) → length samples ≡ 2 * length os → join_call (heard_after d os) rl rh samples ≡ joined (heard_after d os) rl rh
+  join_run : (samples : List ℤ) → length samples ≡ 2 * length os → join_call (heard_after d os) rl rh samples ≡ joined (heard_after d os) rl rh
   unfolding join_call misfit
-  join_run_lem samples e =
+  join_run samples e =
       let p = rls_length mode d.low os in
       let q = rhs_length d.high os in
       rw (
@@ -71,10 +76,10 @@ module _ (mode : ℕ) (d : Decoder) (os : List ℕ) (says : Allowed mode (length
       → Does (decoded mode d os) second last
   unfolding heard_after heard joined decoded
   stepped low₀ high₀ samples a b e x y =
-      let h = rw (hear_run_lem low₀ high₀ a b) at x in
+      let h = rw (hear_run low₀ high₀ a b) at x in
       let l = ap (λ (z : List ℤ × List ℤ). z.0) h.left in
       let r = ap (λ (z : List ℤ × List ℤ). z.1) h.left in
-      let j = rw (l, r, h.answer, join_run_lem samples e) at y in
+      let j = rw (l, r, h.answer, join_run samples e) at y in
       let full = sym (full_in_steps mode d os) in
       let next = sym (record_in_steps mode d os) in
       record {
@@ -131,3 +136,14 @@ pub as_reported : (r : BlockRead) (done : Decoded) (samples : List ℤ) {first l
     ≡ reported r done samples
 unfolding reported
 as_reported r done samples f l = rw (f, l)
+
+-- an accepted answer is the same to a call with any record
+pub whoever : {R L : Type 0} {x : Outcome (Answer R) L} (c d : R) (r : Result (Accepted R) Refusal) {l : L} → x.answer.number ≡ 0
+    → Does x (answered c r) l → Does x (answered d r) l
+whoever c d (Ok a) z h = h
+whoever c d (Err r) z h = absurd (refused_number r (ap (λ a. a.number) h.answer ∙ z))
+
+-- what reading refuses is not played
+pub unread : (p : Player) (r : Refusal) → index_of r ≡ 0 → played_as p (Err r) ≡ not_played (number_of r) p
+unread p r e =
+    ap (λ (n : ℕ). record { number = number_of r; index = n; next = p; take = 0; block = 0; mode = 0; count = 0; first = pos 0; last = pos 0; limited = 0 }) e

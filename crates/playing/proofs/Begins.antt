@@ -5,7 +5,7 @@ use Rattle.std.specs.Prelude.{◌≡◌, refl, true, false}
 use Rattle.std.proofs.Math.Bool.{or-true}
 use Rattle.std.proofs.Common.{eq-eqb, ne_eqb}
 use Rattle.g722.specs.Records.{reset_decoder}
-use Rattle.block.specs.declared.BlockRead.{BlockRead}
+use Rattle.block.specs.Read.{BlockRead}
 use Rattle.playing.specs.declared.Player.{Player}
 use Rattle.playing.specs.Play.{start_player, begins, afresh, decoder_for}
 

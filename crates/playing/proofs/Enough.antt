@@ -10,7 +10,7 @@ use Rattle.laws.specs.Outcome.{Outcome}
 use Rattle.g722.specs.Records.{good_decoder, reset_decoder}
 use Rattle.g722.specs.Decoding.{samples_of}
 use Rattle.block.specs.Calls.{read_call}
-use Rattle.playing.specs.declared.Played.{Played}
+use Rattle.playing.specs.Answer.{Played}
 use Rattle.playing.specs.Play.{start_player, afresh, decoder_for, octets_in}
 use Rattle.playing.proofs.PlayCalls.{octets_length, read_bounds, start_good, play_done}
 use Rattle.facts.specs.Told.{decoder_run, samples_run, samples_length}

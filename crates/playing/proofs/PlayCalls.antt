@@ -12,7 +12,7 @@ use Rattle.facts.specs.Good.{decoder_reset_good}
 use Rattle.block.specs.Calls.{read_call}
 use Rattle.block.specs.Formed.{Allowed}
 use Rattle.block.proofs.Numbers.{read_sound, read_done}
-use Rattle.block.specs.declared.BlockRead.{BlockRead}
+use Rattle.block.specs.Read.{BlockRead}
 use Rattle.playing.specs.declared.Player.{Player}
 use Rattle.playing.specs.Play.{afresh, decoder_for, not_played, octets_in, reported, played_from, play_call}
 

@@ -12,7 +12,7 @@ use Rattle.facts.specs.Told.{decoder_run, samples_run, decoder_run_lem, samples_
 use Rattle.block.specs.Calls.{read_call}
 use Rattle.playing.specs.Play.{decoder_for, octets_in}
 use Rattle.playing.proofs.PlayCalls.{octets_length, play_heard, play_done}
-use Rattle.playing.specs.declared.Played.{Played}
+use Rattle.playing.specs.Answer.{Played}
 use Rattle.playing.specs.Run.{Playing, played, onward, told}
 
 -- ---- a block that was played is a run from where it starts

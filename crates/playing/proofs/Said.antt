@@ -13,7 +13,7 @@ use Rattle.playing.specs.Play.{decoder_for, octets_in, reported}
 use Rattle.playing.proofs.PlayCalls.{octets_length, read_bounds, play_done}
 use Rattle.playing.specs.Run.{Playing, played, onward}
 use Rattle.playing.proofs.Enough.{Ready, fits}
-use Rattle.playing.specs.declared.Played.{Played}
+use Rattle.playing.specs.Answer.{Played}
 
 -- the samples of a block, from a record
 abbrev pub samples_in : Decoder → List ℕ → List ℤ

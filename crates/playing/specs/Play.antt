@@ -4,11 +4,11 @@ use Rattle.std.specs.Prelude.{Bool, true, false, cond, not, ◌||◌, List, ◌+
 use Rattle.laws.specs.Outcome.{Outcome}
 use Rattle.g722.specs.Records.{good_decoder, reset_decoder}
 use Rattle.g722.specs.Decoding.{decoded}
-use Rattle.g722.specs.declared.Decoded.{Decoded}
+use Rattle.g722.specs.Answers.{Decoded}
 use Rattle.g722.specs.declared.Decoder.{Decoder}
 use Rattle.block.specs.Calls.{read_call}
-use Rattle.block.specs.declared.BlockRead.{BlockRead}
-use Rattle.playing.specs.declared.Played.{Played}
+use Rattle.block.specs.Read.{BlockRead}
+use Rattle.playing.specs.Answer.{Played}
 use Rattle.playing.specs.declared.Player.{Player}
 
 -- ---- where a take begins

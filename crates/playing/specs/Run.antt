@@ -6,7 +6,7 @@ use Rattle.laws.specs.Outcome.{Outcome}
 use Rattle.facts.specs.Told.{Told, marked}
 use Rattle.block.specs.Calls.{read_call}
 use Rattle.playing.specs.Play.{start_player, octets_in, play_call}
-use Rattle.playing.specs.declared.Played.{Played}
+use Rattle.playing.specs.Answer.{Played}
 use Rattle.playing.specs.declared.Player.{Player}
 
 -- ---- block by block

@@ -1,6 +1,7 @@
-// A player's record, and the answer of playing a block. Types only.
+// A player's record, and what playing a block gives. Types only.
 #![tactic(auto)]
 
+use block::Header;
 use g722::Decoder;
 
 // What is kept from block to block: the decoder's record, whether a block was played before, and the take of the last that was.
@@ -11,16 +12,11 @@ pub struct Player {
     pub take: u32,
 }
 
-// The answer of playing a block: the number of SCOPE, the player's next record, and where the number is 0 what the listing says.
+// A block that was played: the player's next record, what the block says of itself, and what the listing says of its samples.
 #[derive(Clone, Copy)]
-pub struct Played {
-    pub number: u8,
-    pub index: usize,
+pub struct PlayedBlock {
     pub next: Player,
-    pub take: u32,
-    pub block: u32,
-    pub mode: u8,
-    pub count: usize,
+    pub header: Header,
     pub first: i16,
     pub last: i16,
     pub limited: u32,

@@ -21,22 +21,15 @@ pub struct Signals {
 pub fn heard(d: Decoder, told: u8, octet: u8) -> Signals
     ensures { result ≡ heard_of d told octet }
 {
-    let low = d.low;
-    let high = d.high;
-    let past = d.past;
-    let x = low_heard(in_force(told), low, octet);
-    let y = high_heard(high, octet);
-    let low_next = x.next;
-    let high_next = y.next;
-    let of_low = x.signal;
-    let of_high = y.signal;
+    let low = low_heard(in_force(told), d.low, octet);
+    let high = high_heard(d.high, octet);
     Signals {
-        rl: of_low.value,
-        rh: of_high.value,
+        rl: low.signal.value,
+        rh: high.signal.value,
         next: Decoder {
-            low: low_next,
-            high: high_next,
-            past: past,
+            low: low.next,
+            high: high.next,
+            ..d
         },
     }
 }
@@ -53,19 +46,14 @@ pub struct Reply {
 pub fn sent(c: Coder, xl: Limited, xh: Limited) -> Reply
     ensures { result ≡ sent_of c xl xh }
 {
-    let low = c.low;
-    let high = c.high;
-    let past = c.past;
-    let b = bands_coded(low, high, xl.value, xh.value);
-    let low_next = b.low;
-    let high_next = b.high;
+    let coded = bands_coded(c.low, c.high, xl.value, xh.value);
     Reply {
-        octet: b.octet,
+        octet: coded.octet,
         limited: changes(xl, xh),
         next: Coder {
-            low: low_next,
-            high: high_next,
-            past: past,
+            low: coded.low,
+            high: coded.high,
+            ..c
         },
     }
 }

@@ -13,9 +13,8 @@ use Rattle.g722.specs.Decoding.{not_decoded, decoded, decode_call}
 use Rattle.g722.specs.Steps.{unpaired, not_heard, heard, hear_call, first_bad_pair, not_joined, joined, join_call}
 use Rattle.facts.specs.Lengths.{matched}
 use Rattle.g722.specs.declared.Coder.{Coder}
-use Rattle.g722.specs.declared.Coded.{Coded}
+use Rattle.g722.specs.Answers.{Coded, Decoded}
 use Rattle.g722.specs.declared.Decoder.{Decoder}
-use Rattle.g722.specs.declared.Decoded.{Decoded}
 
 -- ---- tests that were passed
 

@@ -19,8 +19,10 @@ use Rattle.promises.proofs.Through.{Calls}
 use Rattle.promises.proofs.Sequences.{CodeInput, DecodeInput}
 use Rattle.promises.proofs.Carried.{Parcel}
 use Rattle.promises.proofs.Made.{Made, MadeFrom}
-use Rattle.promises.proofs.Running.{Reset_coder, Reset_decoder, Coding, Decoding, codings, decodings}
+use Rattle.promises.proofs.Running.{Reset_coder, Reset_decoder, Coding, Decoding}
+use Rattle.promises.proofs.RunningLaws.{codings, decodings}
 use Rattle.promises.proofs.RunningData.{Putting, Puts, parcel}
+use Rattle.promises.proofs.Said.{code_said, decode_said, put_said}
 
 -- a contract of one plain claim allows what meets the claim, in the logic's own model
 pub allowed : {T : Ended} {φ : Claims T} {κs : Lifetimes T} {a : Input T κs} {r : Answer T κs} {l : Lasts T κs a}
@@ -63,41 +65,56 @@ lent_out x = record { ref_ptr = (0, 0); ghost_name = 0; now = x }
 
 code : Coder → CodeInput → Coding
 code c k =
-    let x = code_call c k.samples k.octets in
-    record { lifetimes = ([], ([], tt)); samples = lent k.samples; octets = lent_out k.octets; answer = x.answer; left = x.left }
+    record {
+      lifetimes = ([], ([], tt));
+      given = c;
+      samples = lent k.samples;
+      octets = lent_out k.octets;
+      answer = (code_said c k.samples k.octets).result;
+      left = (code_call c k.samples k.octets).left;
+    }
 
 decode : Decoder → DecodeInput → Decoding
 decode d k =
-    let x = decode_call d k.told k.octets k.samples in
     record {
       lifetimes = ([], ([], tt));
+      given = d;
       told = k.told;
       octets = lent k.octets;
       samples = lent_out k.samples;
-      answer = x.answer;
-      left = x.left;
+      answer = (decode_said d k.told k.octets k.samples).result;
+      left = (decode_call d k.told k.octets k.samples).left;
     }
 
 put : Parcel → Putting
 put x =
-    let y = put_call x.mode x.octets x.bytes in
     record {
       lifetimes = ([], ([], tt));
       mode = x.mode;
       octets = lent_out x.octets;
       bytes = lent x.bytes;
-      answer = y.answer;
-      left = y.left;
+      answer = (put_said x.mode x.octets x.bytes).result;
+      left = (put_call x.mode x.octets x.bytes).left;
       samples = x.samples;
     }
 
 pub makes_code : Makes codings
 unfolding code lent lent_out
-makes_code = record { make = code; asked = λ c k. refl; may = λ c k. allowed (record { answer = refl; left = refl }) }
+makes_code =
+    record {
+      make = code;
+      asked = λ c k. refl;
+      may = λ c k. (refl, allowed (record { answer = (code_said c k.samples k.octets).says; left = refl }));
+    }
 
 pub makes_decode : Makes decodings
 unfolding decode lent lent_out
-makes_decode = record { make = decode; asked = λ d k. refl; may = λ d k. allowed (record { answer = refl; left = refl }) }
+makes_decode =
+    record {
+      make = decode;
+      asked = λ d k. refl;
+      may = λ d k. (refl, allowed (record { answer = (decode_said d k.told k.octets k.samples).says; left = refl }));
+    }
 
 -- THE THEOREMS: both ends can be reset, any calls can be made at each, and any data can be put in
 pub can_reset : Reset_coder reset_coder × Reset_decoder reset_decoder
@@ -111,4 +128,4 @@ can_decode = all_made decodings makes_decode
 
 pub can_put : (x : Parcel) → (p : Putting) × Puts p × (parcel p ≡ x)
 unfolding put lent lent_out
-can_put x = (put x, allowed (record { answer = refl; left = refl }), refl)
+can_put x = (put x, allowed (record { answer = (put_said x.mode x.octets x.bytes).says; left = refl }), refl)

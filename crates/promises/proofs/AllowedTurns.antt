@@ -10,7 +10,8 @@ use Rattle.promises.proofs.Sequences.{CodeInput, DecodeInput}
 use Rattle.promises.proofs.Turns.{Turn, reset, more, on_turn}
 use Rattle.promises.proofs.Made.{Made}
 use Rattle.promises.proofs.MadeTurns.{MadeTurns, none, afresh, called}
-use Rattle.promises.proofs.Running.{Reset_coder, Reset_decoder, codings, decodings}
+use Rattle.promises.proofs.Running.{Reset_coder, Reset_decoder}
+use Rattle.promises.proofs.RunningLaws.{codings, decodings}
 use Rattle.promises.proofs.Allowed.{Makes, makes_code, makes_decode, can_reset}
 
 -- turns that were made from a record, each as it was asked for, and the record that they end with

@@ -11,7 +11,7 @@ use Rattle.laws.specs.Outcome.{Outcome}
 use Rattle.g722.specs.Quantise.{in_force}
 use Rattle.g722.specs.Steps.{signals_of, band_after, rhs_of, heard_after, heard, hear_call}
 use Rattle.g722.specs.declared.Decoder.{Decoder}
-use Rattle.g722.specs.declared.Decoded.{Decoded}
+use Rattle.g722.specs.Answers.{Decoded}
 use Rattle.facts.specs.Signals.{signals_length, rhs_length}
 use Rattle.facts.specs.Told.{Told, marked}
 use Rattle.promises.proofs.Accepted.{heard_run_lem}

@@ -6,7 +6,7 @@ use Rattle.std.proofs.Common.{sym, ap, ◌∙◌, eqb-true}
 use Rattle.std.proofs.lemmas.Bool.{eqb-false}
 use Rattle.g722.specs.Steps.{joined_in_full, joined_of, pairs_after, joined_after, joined, join_call}
 use Rattle.g722.specs.declared.Decoder.{Decoder}
-use Rattle.g722.specs.declared.Decoded.{Decoded}
+use Rattle.g722.specs.Answers.{Decoded}
 use Rattle.promises.proofs.Accepted.{joined_paired, joined_run_lem}
 use Rattle.promises.proofs.RefusedLaws.{join_beside}
 use Rattle.promises.proofs.Through.{Calls, Runs, through, lefts, taken}

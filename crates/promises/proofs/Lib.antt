@@ -46,6 +46,7 @@ pub mod WitnessLaws
 pub mod Made
 pub mod MadeLaws
 pub mod Running
+pub mod RunningLaws
 pub mod RunningUnheard
 pub mod RunningSteps
 pub mod RunningStepsLaws
@@ -54,6 +55,7 @@ pub mod MadeTurns
 pub mod RunningResets
 pub mod RunningData
 pub mod RunningDataLaws
+pub mod Said
 pub mod Allowed
 pub mod AllowedSteps
 pub mod AllowedTurns

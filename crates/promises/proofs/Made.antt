@@ -4,13 +4,25 @@
 use Rattle.std.specs.Prelude.{eqb}
 use Rattle.std.proofs.Math.Bool.{cond}
 use mathlib.Core.List.{List, [], ◌∷◌, ◌++◌}
+use base.Stored.{Coded-set, coded_ℕ}
 use Rattle.laws.specs.Outcome.{Outcome, Does}
+use Rattle.g722.specs.Answers.{Answer}
 use Rattle.promises.proofs.Through.{Calls}
 
 -- that something did what an outcome says is a mere fact, so it can be read off a contract
 pub does_prop : {A B : Type 0} {x : Outcome A B} {r : A} {l : B} → IsSet A → IsSet B → IsProp (Does x r l)
 does_prop {x} {r} {l} f g p q =
     λ i. record { answer = f r x.answer p.answer q.answer i; left = g l x.left p.left q.left i }
+
+-- answers are equal in one way, where their records are
+pub answer_set : {R : Type 0} → IsSet R → IsSet (Answer R)
+answer_set f a b p q =
+    λ i j. record {
+      number = Coded-set coded_ℕ a.number b.number (λ k. (p k).number) (λ k. (q k).number) i j;
+      index = Coded-set coded_ℕ a.index b.index (λ k. (p k).index) (λ k. (q k).index) i j;
+      limited = Coded-set coded_ℕ a.limited b.limited (λ k. (p k).limited) (λ k. (q k).limited) i j;
+      next = f a.next b.next (λ k. (p k).next) (λ k. (q k).next) i j;
+    }
 
 -- a call that was made at an end: what it was handed, what it answered and left, and that its contract allows it from a record,
 -- which is to say that it did what the definition gives

@@ -1,11 +1,11 @@
 -- Coding, data, decoding, of the running code: of whatever the contracts of `coder::code`, `cue::put` and `decoder::decode` allow.
 -- Assumes nothing.
-use Rattle.std.specs.Prelude.{ℕ, ℤ}
+use Rattle.std.specs.Prelude.{Result, ℕ, ℤ}
 use mathlib.Core.List.{List, [], ◌∷◌}
 use Rattle.std.specs.Borrow.{Bor, MutBor}
 use Rattle.laws.specs.One.{Allows, Lifetimes}
 use Rattle.cue.specs.contracts as cue
-use Rattle.g722.specs.declared.Moved.{Moved}
+use Rattle.g722.specs.declared.Refusal.{Refusal}
 use Rattle.promises.proofs.Sequences.{DecodeInput}
 use Rattle.promises.proofs.Carried.{Parcel}
 
@@ -16,7 +16,7 @@ pub record Putting : Type 0 where
   pub mode : ℕ
   pub octets : MutBor (List ℕ)
   pub bytes : Bor (List ℕ)
-  pub answer : Moved
+  pub answer : Result (Unit {0}) Refusal
   pub left : List ℕ
   pub samples : List ℤ
 

@@ -15,8 +15,8 @@ use Rattle.promises.proofs.Ends.{AsSent}
 use Rattle.promises.proofs.Carried.{laden, with_data, without_data}
 use Rattle.promises.proofs.CarriedLaws.{six_kept, alike_calls}
 use Rattle.promises.proofs.Made.{MadeFrom, last_of}
-use Rattle.promises.proofs.Running.{Reset_coder, Reset_decoder, Coding, Decoding, codings, decodings, sent, spoken, came, heard}
-use Rattle.promises.proofs.Running.{running_ends_equal}
+use Rattle.promises.proofs.Running.{Reset_coder, Reset_decoder, Coding, Decoding}
+use Rattle.promises.proofs.RunningLaws.{codings, decodings, sent, spoken, came, heard, running_ends_equal}
 use Rattle.promises.proofs.RunningUnheard.{running_unheard}
 use Rattle.promises.proofs.RunningData.{Putting, Puts, AllPut, parcel, as_left}
 

@@ -12,7 +12,8 @@ use Rattle.promises.proofs.Lamp.{Counts, total, count_through}
 use Rattle.promises.proofs.LampCalls.{coding_counts, coded_count, decoding_counts, decoded_count}
 use Rattle.promises.proofs.Made.{Made, MadeFrom}
 use Rattle.promises.proofs.MadeLaws.{made_answers, made_taken}
-use Rattle.promises.proofs.Running.{Coding, Decoding, codings, decodings, spoken, came}
+use Rattle.promises.proofs.Running.{Coding, Decoding}
+use Rattle.promises.proofs.RunningLaws.{codings, decodings, spoken, came}
 
 -- what calls counted that were made: the sum over their answers
 abbrev pub count_of : {C : Calls} (M : Made C) → Counts C → List M.Call → ℕ

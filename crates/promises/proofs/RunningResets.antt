@@ -12,9 +12,9 @@ use Rattle.promises.proofs.StepRuns.{received}
 use Rattle.promises.proofs.SameBands.{SameBands}
 use Rattle.promises.proofs.Ends.{AsSent}
 use Rattle.promises.proofs.Turns.{Turn, reset, since}
-use Rattle.promises.proofs.Running.{Reset_coder, Reset_decoder, did_reset_coder, did_reset_decoder}
-use Rattle.promises.proofs.Running.{Coding, Decoding, codings, decodings, sent, spoken, came}
-use Rattle.promises.proofs.Running.{running_ends_equal, running_behind, running_records_equal}
+use Rattle.promises.proofs.Running.{Reset_coder, Reset_decoder, Coding, Decoding}
+use Rattle.promises.proofs.RunningLaws.{did_reset_coder, did_reset_decoder, codings, decodings, sent, spoken, came}
+use Rattle.promises.proofs.RunningLaws.{running_ends_equal, running_behind, running_records_equal}
 use Rattle.promises.proofs.MadeTurns.{MadeTurns, FromReset, made_since}
 
 -- THE THEOREMS, whatever the records before the first reset, and whatever was lost before the last

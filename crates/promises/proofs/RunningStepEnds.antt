@@ -17,8 +17,8 @@ use Rattle.promises.proofs.UnheardSteps.{AlikeStep, steps_answers_unheard, steps
 use Rattle.promises.proofs.UnheardSteps.{steps_low_unheard, steps_high_unheard, steps_samples_unheard}
 use Rattle.promises.proofs.Made.{MadeFrom, last_of, of_done, lefts_of}
 use Rattle.promises.proofs.MadeLaws.{made_record, made_answers, made_of, made_left}
-use Rattle.promises.proofs.Running.{Reset_coder, Reset_decoder, did_reset_coder, did_reset_decoder}
-use Rattle.promises.proofs.Running.{Coding, codings, sent, spoken, running_octets, running_coder}
+use Rattle.promises.proofs.Running.{Reset_coder, Reset_decoder, Coding}
+use Rattle.promises.proofs.RunningLaws.{did_reset_coder, did_reset_decoder, codings, sent, spoken, running_octets, running_coder}
 use Rattle.promises.proofs.RunningStepsLaws.{Stepping, step_input, step_answered, lows_left, highs_left, did_low, did_high, steppings}
 use Rattle.promises.proofs.RunningStepsLaws.{octets_came, running_steps_record}
 

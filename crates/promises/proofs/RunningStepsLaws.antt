@@ -3,35 +3,35 @@
 use Rattle.std.specs.Prelude.{◌≡◌, refl, List, [], map, ℤ}
 use Rattle.std.proofs.Common.{sym, ap, ◌∙◌}
 use base.Stored.{Coded-set, coded_ℤ, coded_list, coded×}
-use denote.Signature.{type_at}
 use Rattle.laws.specs.One.{claims}
-use Rattle.laws.specs.Outcome.{Does}
-use Rattle.decoder.specs.contracts as decoder
+use Rattle.laws.specs.Outcome.{Does, does}
 use Rattle.g722.specs.Steps.{rhs_of, heard_after, hear_call, joined_of, joined_after, join_call}
 use Rattle.g722.specs.declared.Decoder.{Decoder}
-use Rattle.g722.specs.declared.Decoded.{Decoded}
+use Rattle.g722.specs.Answers.{Decoded, answered}
 use Rattle.facts.specs.Told.{Told, decoder_run, samples_run}
 use Rattle.promises.proofs.StepRuns.{received, rls_run, Heard, lows, highs, decodes}
 use Rattle.promises.proofs.HearCalls.{HearInput}
 use Rattle.promises.proofs.StepGiven.{StepInput, hear, join, octets_in, pairs_in}
 use Rattle.promises.proofs.StepOrder.{stepping, stepping_runs, low_left, high_left, steps_low, steps_high}
-use Rattle.promises.proofs.Made.{does_prop, Made, MadeFrom, last_of, of_done, taken_of, lefts_of}
+use Rattle.promises.proofs.Made.{does_prop, answer_set, Made, MadeFrom, last_of, of_done, taken_of, lefts_of}
 use Rattle.promises.proofs.MadeLaws.{made_of, made_taken, made_as_one_run, made_left_as_one_run}
+use Rattle.promises.proofs.RunningLaws.{decoders}
 use Rattle.promises.proofs.RunningSteps.{Hearing, Joining, Hears, Joins}
 
 -- ---- and that it is what the definitions give
 
 pub did_hear : (d : Decoder) (k : Hearing) → Hears d k
-    → Does (hear_call d k.told k.octets.now k.low.now k.high.now) k.answer (k.left_low, k.left_high)
+    → Does (hear_call d k.told k.octets.now k.low.now k.high.now) (answered k.given k.answer) (k.left_low, k.left_high)
 did_hear d k p =
-    let answers = Coded-set (type_at (decoder.hear.ended).signature.result k.lifetimes).coded in
-    claims (does_prop answers (Coded-set (coded× (coded_list coded_ℤ) (coded_list coded_ℤ)))) p (λ e. e)
+    let signals = Coded-set (coded× (coded_list coded_ℤ) (coded_list coded_ℤ)) in
+    let did = claims (does_prop (answer_set decoders) signals) p.1 (λ e. e) in
+    does (ap (λ (s : Decoder). hear_call s k.told k.octets.now k.low.now k.high.now) (sym p.0)) did.answer did.left
 
 pub did_join : (d : Decoder) (k : Joining) → Joins d k
-    → Does (join_call d k.low.now k.high.now k.samples.now) k.answer k.left
+    → Does (join_call d k.low.now k.high.now k.samples.now) (answered k.given k.answer) k.left
 did_join d k p =
-    let answers = Coded-set (type_at (decoder.join.ended).signature.result k.lifetimes).coded in
-    claims (does_prop answers (Coded-set (coded_list coded_ℤ))) p (λ e. e)
+    let did = claims (does_prop (answer_set decoders) (Coded-set (coded_list coded_ℤ))) p.1 (λ e. e) in
+    does (ap (λ (s : Decoder). join_call s k.low.now k.high.now k.samples.now) (sym p.0)) did.answer did.left
 
 -- ---- calls of both, in any order
 
@@ -47,8 +47,8 @@ step_input (heard k) = hear (hear_input k)
 step_input (joined k) = join (record { low = k.low.now; high = k.high.now; samples = k.samples.now })
 
 abbrev pub step_answered : Stepping → Decoded
-step_answered (heard k) = k.answer
-step_answered (joined k) = k.answer
+step_answered (heard k) = answered k.given k.answer
+step_answered (joined k) = answered k.given k.answer
 
 -- what a call left of low signals, of high ones and of samples
 abbrev pub lows_left : Stepping → List ℤ

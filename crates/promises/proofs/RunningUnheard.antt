@@ -7,7 +7,8 @@ use Rattle.promises.proofs.Unheard.{AlikeCalls}
 use Rattle.promises.proofs.UnheardLaws.{answers_unheard, samples_unheard, record_unheard}
 use Rattle.promises.proofs.Made.{MadeFrom, last_of}
 use Rattle.promises.proofs.MadeLaws.{made_record, made_answers, made_left}
-use Rattle.promises.proofs.Running.{Decoding, decodings, heard}
+use Rattle.promises.proofs.Running.{Decoding}
+use Rattle.promises.proofs.RunningLaws.{decodings, heard}
 
 -- from equal records, calls that differ in cue bits alone: the same answers, the same samples, the same record
 pub running_unheard : (d : Decoder) (ks js : List Decoding) → MadeFrom decodings d ks → MadeFrom decodings d js

@@ -10,9 +10,8 @@ use Rattle.g722.specs.Records.{all_in_range}
 use Rattle.g722.specs.Coding.{octets_of, coder_after, coded, code_call}
 use Rattle.g722.specs.Decoding.{decoded, decode_call}
 use Rattle.g722.specs.declared.Coder.{Coder}
-use Rattle.g722.specs.declared.Coded.{Coded}
+use Rattle.g722.specs.Answers.{Coded, Decoded}
 use Rattle.g722.specs.declared.Decoder.{Decoder}
-use Rattle.g722.specs.declared.Decoded.{Decoded}
 use Rattle.facts.specs.Lengths.{twice}
 use Rattle.facts.specs.CodedRuns.{Pairs, pairs, coder_join, octets_join}
 use Rattle.facts.specs.Range.{run_in_range}

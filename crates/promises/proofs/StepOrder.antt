@@ -6,7 +6,7 @@ use Rattle.std.specs.Prelude.{◌≡◌, refl, true, false, List, [], ◌++◌, 
 use Rattle.std.proofs.Common.{sym, ◌∙◌, eqb-true}
 use Rattle.g722.specs.Steps.{signals_of, band_after, rhs_of, heard_after, joined_in_full, joined_of, pairs_after, joined_after}
 use Rattle.g722.specs.declared.Decoder.{Decoder}
-use Rattle.g722.specs.declared.Decoded.{Decoded}
+use Rattle.g722.specs.Answers.{Decoded}
 use Rattle.facts.specs.Told.{Told, decoder_run, samples_run}
 use Rattle.promises.proofs.Through.{Calls, Runs, done, following, through, of_accepted, lefts, taken}
 use Rattle.promises.proofs.ThroughLaws.{as_one_run, left_as_one_run, of_as_one_run}

@@ -12,7 +12,7 @@ use Rattle.g722.specs.Coding.{misfit}
 use Rattle.g722.specs.Decoding.{decoded}
 use Rattle.g722.specs.Steps.{rls_of, rhs_of, heard_after, hear_call, joined_after, joined, join_call}
 use Rattle.g722.specs.declared.Decoder.{Decoder}
-use Rattle.g722.specs.declared.Decoded.{Decoded}
+use Rattle.g722.specs.Answers.{Decoded}
 use Rattle.facts.specs.Signals.{rls_length, rhs_length, rls_in_range, rhs_in_range, no_bad_pair, heard_good}
 use Rattle.g722.specs.Arithmetic.{overloads}
 use Rattle.facts.specs.Steps.{full_in_steps, samples_in_steps, record_in_steps}

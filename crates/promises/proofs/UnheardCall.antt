@@ -23,7 +23,7 @@ use Rattle.facts.specs.Steps.{full_in_steps, samples_in_steps, record_in_steps}
 use Rattle.facts.specs.Upper.{upper_six, low_by_four, upper_low, upper_high}
 use Rattle.g722.specs.declared.Band.{Band}
 use Rattle.g722.specs.declared.Decoder.{Decoder}
-use Rattle.g722.specs.declared.Decoded.{Decoded}
+use Rattle.g722.specs.Answers.{Decoded}
 use Rattle.promises.proofs.Accepted.{decoded_run}
 use Rattle.promises.proofs.Unheard.{heard_bits, Alike}
 

@@ -6,8 +6,7 @@ use mathlib.Core.List.{List, [], ◌∷◌, map, flat_map}
 use Rattle.g722.specs.Arithmetic.{neg}
 use Rattle.g722.specs.Records.{reset_coder, reset_decoder}
 use Rattle.g722.specs.Cue.{put_call}
-use Rattle.g722.specs.declared.Coded.{Coded}
-use Rattle.g722.specs.declared.Decoded.{Decoded}
+use Rattle.g722.specs.Answers.{Coded, Decoded}
 use Rattle.promises.proofs.Through.{answers}
 use Rattle.promises.proofs.Sequences.{CodeInput, coding, octets_through, decoding, octets_taken}
 use Rattle.promises.proofs.StepRuns.{received}

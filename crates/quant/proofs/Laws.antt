@@ -7,7 +7,7 @@ use native.Mathlib.Omega.{arith}
 use lib.IntN.{ℤ, pos, ◌*ℤ◌}
 use lib.Signed.{mag, shr_z, le_z_yes}
 use mir.Syntax.{w16, w32}
-use mir.Val.{Fits, SFits, to_z}
+use mir.Val.{SFits, to_z}
 use mir.Facts.{to_z_pos}
 use Rattle.laws.specs.Clamp.{clamp_within}
 use Rattle.laws.specs.Order.{size_within}
@@ -19,18 +19,8 @@ module _ (q : ℕ) (h : q ≤ 4095) where
   pub eight_small : q * 8 ≤ 32766
   eight_small = omega arith
 
-  pub eight_fits : Fits w16 (q * 8)
-  eight_fits = record { fits = omega arith }
-
-  pub eight_sfits : SFits w16 (pos (q * 8))
-  eight_sfits = record { sfits = omega arith }
-
   pub eight_read : to_z w16 (q * 8) ≡ pos (q * 8)
   eight_read = to_z_pos w16 (omega arith)
-
--- a number of 16 bits read as one of 32 with a sign
-pub i32_read : {n : ℕ} → Fits w16 n → to_z w32 n ≡ pos n
-i32_read f = to_z_pos w32 (omega arith)
 
 -- a level's product fits 32 bits
 pub level_product_fits : (q : ℕ) → q ≤ 4095 → {z : ℤ} → SFits w16 z → SFits w32 (pos q *ℤ z)

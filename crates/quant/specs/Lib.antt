@@ -1,2 +1,3 @@
--- Where a product is not stopped.
+-- Where a product is not stopped, and what of a sub-band is its own.
 pub mod Unstopped
+pub mod Own

@@ -8,9 +8,8 @@ use borrow.Author.Tests.{eq-eqb, ne_eqb, leb-true, leb-false, le-leb, lt-leb, lt
 use Rattle.laws.specs.Order.{by_test}
 use Rattle.block.specs.Calls.{refused, read_call}
 use Rattle.block.proofs.Numbers.{read_6, read_most}
-use Rattle.block.specs.declared.BlockRead.{BlockRead}
-use Rattle.reader.specs.declared.Step.{Step}
-use Rattle.reader.specs.Walk.{ended, stood, step_at, next_at}
+use Rattle.block.specs.Read.{BlockRead}
+use Rattle.reader.specs.Walk.{Step, ended, stood, step_at, next_at}
 
 -- the 512 bytes of block number `at`, or as many as are left
 abbrev pub piece_at : List ℕ → ℕ → List ℕ

@@ -1,9 +1,17 @@
 -- A recording, block after block.
 -- Assumes nothing.
-use Rattle.std.specs.Prelude.{true, false, cond, List, ℕ, ◌+◌, ◌*◌, eqb, ltb, leb, length, take, drop}
+use Rattle.std.specs.Prelude.{Bool, true, false, cond, List, ℕ, ◌+◌, ◌*◌, eqb, ltb, leb, length, take, drop, Option, Some, None, Result}
+use Rattle.g722.specs.declared.Refusal.{Refusal}
 use Rattle.block.specs.Calls.{refused, read_call}
-use Rattle.block.specs.declared.BlockRead.{BlockRead}
-use Rattle.reader.specs.declared.Step.{Step}
+use Rattle.block.specs.Read.{BlockRead, read_as}
+use Rattle.block.specs.declared.Header.{Header}
+use Rattle.reader.specs.declared.Found.{Found}
+
+-- what stands at a place, and the place from which the walk goes on
+pub record Step : Type 0 where
+  pub end : Bool
+  pub block : BlockRead
+  pub next : ℕ
 
 -- the end is no block: it has a number that no block gives, be it read or refused, and the walk stays
 abbrev pub ended : ℕ → Step
@@ -23,3 +31,11 @@ step_at s at =
 -- where the walk goes on from there
 abbrev pub next_at : List ℕ → ℕ → ℕ
 next_at s at = (step_at s at).next
+
+-- what is found there, as a step
+abbrev pub stop : Option (Result Header Refusal) → ℕ → Step
+stop None at = ended at
+stop (Some b) at = record { end = false; block = read_as b; next = at }
+
+abbrev pub walked : Found → Step
+walked f = stop f.block f.next

@@ -2,9 +2,11 @@
 #![tactic(auto)]
 
 ghost use Rattle.std.specs.Prelude.{◌≡◌, ◌+◌, ◌^◌, ◌<◌};
-ghost use Rattle.reader.specs.Walk.{ended, stood, step_at, next_at};
+ghost use Rattle.block.specs.Read.{read_as};
+ghost use Rattle.reader.specs.Walk.{walked, ended, stood, step_at, next_at};
 
-use block::BlockRead;
+use block::Header;
+use g722::Refusal;
 
 // A lent recording and the number of the block at which its walk stands.
 #[derive(Clone, Copy)]
@@ -13,55 +15,38 @@ pub struct Reader<'a> {
     pub at: usize,
 }
 
-// What stands at a place of a recording, and the place from which the walk goes on.
+// What stands at a place of a recording: nothing, or a block, read or refused; and the place from which the walk goes on.
 #[derive(Clone, Copy)]
-pub struct Step {
-    pub end: bool,
-    pub block: BlockRead,
+pub struct Found {
+    pub block: Option<Result<Header, Refusal>>,
     pub next: usize,
 }
 
-// Nothing is left: the walk stays, and the number is 255, which no block gives.
-fn ended(at: usize) -> Step
-    ensures { result ≡ ended at }
+// Nothing is left: the walk stays.
+fn ended(at: usize) -> Found
+    ensures { walked result ≡ ended at }
 {
-    Step {
-        end: true,
-        block: BlockRead {
-            number: 255,
-            index: 0,
-            take: 0,
-            block: 0,
-            mode: 0,
-            count: 0,
-        },
+    Found {
+        block: None,
         next: at,
     }
 }
 
 // A block that was read or refused: the walk goes on past a good one.
-fn stood(block: BlockRead, at: usize) -> Step
+fn stood(block: Result<Header, Refusal>, at: usize) -> Found
     requires { at + 1 < 2 ^ 64 }
-    ensures { result ≡ stood block at }
+    ensures { walked result ≡ stood (read_as block) at }
 {
-    let number = block.number;
-    if number == 0 {
-        return Step {
-            end: false,
-            block: block,
-            next: at + 1,
-        };
-    }
-    Step {
-        end: false,
-        block: block,
-        next: at,
+    let next = if block.is_ok() { at + 1 } else { at };
+    Found {
+        block: Some(block),
+        next,
     }
 }
 
 // Block number `at` of a recording.
-pub fn step_at(src: &[u8], at: usize) -> Step
-    ensures { result ≡ step_at src.now at }
+pub fn step_at(src: &[u8], at: usize) -> Found
+    ensures { walked result ≡ step_at src.now at }
 {
     let whole = src.len() / 512;
     if whole < at {
@@ -92,8 +77,8 @@ pub fn new<'a>(src: &'a [u8]) -> Reader<'a>
 }
 
 // What stands where the reader is, and where it goes on.
-pub fn next<'a>(r: Reader<'a>) -> Step
-    ensures { result ≡ step_at r.entry.src.now r.entry.at }
+pub fn next<'a>(r: Reader<'a>) -> Found
+    ensures { walked result ≡ step_at r.entry.src.now r.entry.at }
 {
     step_at(r.src, r.at)
 }
@@ -102,6 +87,8 @@ pub fn next<'a>(r: Reader<'a>) -> Step
 pub fn moved_on<'a>(r: Reader<'a>) -> Reader<'a>
     ensures { (result.src ≡ r.entry.src) × (result.at ≡ next_at r.entry.src.now r.entry.at) }
 {
-    let at = next_at(r.src, r.at);
-    Reader { src: r.src, at }
+    Reader {
+        src: r.src,
+        at: next_at(r.src, r.at),
+    }
 }

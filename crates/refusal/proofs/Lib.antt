@@ -1,3 +1,2 @@
 -- What this crate proves of its functions together.
-pub mod Laws
 pub mod Unique

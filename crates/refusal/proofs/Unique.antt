@@ -12,3 +12,9 @@ overload = equation (λ κs a l m. refl) (λ M. refusal.overload.Met.met)
 
 pub fail : LeavesOne contracts.fail.ended (λ M 𝓤. contracts.fail.clauses) refusal.fail.Symbol.name refusal.fail.Symbol.code
 fail = equation (λ κs a l m. refl) (λ M. refusal.fail.Met.met)
+
+pub report : LeavesOne contracts.report.ended (λ M 𝓤. contracts.report.clauses) refusal.report.Symbol.name refusal.report.Symbol.code
+report = equation (λ κs a l m. refl) (λ M. refusal.report.Met.met)
+
+pub StopFromRefusal-from : LeavesOne contracts.StopFromRefusal.from.ended (λ M 𝓤. contracts.StopFromRefusal.from.clauses) refusal.StopFromRefusal.from.Symbol.name refusal.StopFromRefusal.from.Symbol.code
+StopFromRefusal-from = equation (λ κs a l m. refl) (λ M. refusal.StopFromRefusal.from.Met.met)

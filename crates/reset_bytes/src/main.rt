@@ -18,27 +18,39 @@ fn item(rt: &impl Print, i: usize, byte: u8) -> io::Result<()> {
 }
 
 fn list(rt: &impl Print, bytes: &[u8]) -> io::Result<()> {
-    for i in 0..bytes.len() {
-        item(rt, i, bytes[i])?;
+    for (i, byte) in bytes.iter().enumerate() {
+        item(rt, i, *byte)?;
     }
     Ok(())
 }
 
-// The two macros of the state that this is, or a line on standard error where it is none.
-fn print(rt: &(impl Print + Eprint), name: &str, state: &[u8], written: bool) -> io::Result<()> {
-    if !written {
+// The two macros of the state that is written, or a line on standard error where the bytes have not its length.
+fn print<F: FnOnce(&mut [u8]) -> bool>(
+    rt: &(impl Print + Eprint),
+    name: &str,
+    write: F,
+) -> io::Result<()>
+    requires { F.IsAlwaysCallable write }
+{
+    let mut state = [0; 125];
+    if !write(&mut state) {
         return eprintln!(rt; "the bytes have not the length of a state");
     }
     println!(rt; "#define ZELCANDRY_{name}_BYTES {}", state.len())?;
     print!(rt; "#define ZELCANDRY_{name}_RESET {{")?;
-    list(rt, state)?;
+    list(rt, &state)?;
     println!(rt; " }}")
 }
 
 fn main(rt: HostRuntime) -> io::Result<()> {
-    let mut state = [0u8; 125];
-    let coder = state::write_coder(coder::reset(), &mut state);
-    print(&rt, "CODER", &state, coder)?;
-    let decoder = state::write_decoder(decoder::reset(), &mut state);
-    print(&rt, "DECODER", &state, decoder)
+    print(
+        &rt,
+        "CODER",
+        |state| state::write_coder(coder::reset(), state),
+    )?;
+    print(
+        &rt,
+        "DECODER",
+        |state| state::write_decoder(decoder::reset(), state),
+    )
 }

@@ -1,6 +1,5 @@
 // Sub-blocks INFA to INFD: the words of the sequences around the sub-band coders and decoders.
-ghost use Rattle.std.specs.Prelude.{◌≤◌};
-
+use crate::text::Word;
 use arith::add;
 use bounds::reset_band;
 use g722::Band;
@@ -13,29 +12,21 @@ struct Bands {
     high: Band,
 }
 
-// A word's two bytes, and the bands after it.
+impl Bands {
+    // The bands at reset.
+    fn reset() -> Bands {
+        Bands {
+            low: reset_band(32),
+            high: reset_band(8),
+        }
+    }
+}
+
+// A word, and the bands after it.
 #[derive(Clone, Copy)]
 struct Output {
-    first: u8,
-    second: u8,
+    word: Word,
     next: Bands,
-}
-
-// The bands at reset.
-fn start() -> Bands {
-    Bands {
-        low: reset_band(32),
-        high: reset_band(8),
-    }
-}
-
-// While the input resets, the output is marked as not valid.
-fn reset() -> Output {
-    Output {
-        first: 0,
-        second: 1,
-        next: start(),
-    }
 }
 
 // The octet of two words of the bands.
@@ -45,86 +36,82 @@ fn octet(ih: u8, il: u8) -> u8 {
 
 // The coders' word I# of X#, whose upper 15 bits are the signal of both bands.
 fn coded(s: Bands, x: i16) -> Output {
-    let low = s.low;
-    let high = s.high;
     let signal = x >> 1;
-    let l = low_coded(low, signal);
-    let h = high_coded(high, signal);
-    let low_next = l.next;
-    let high_next = h.next;
+    let low = low_coded(s.low, signal);
+    let high = high_coded(s.high, signal);
     Output {
-        first: octet(h.word, l.word),
-        second: 0,
+        word: [octet(high.word, low.word), 0],
         next: Bands {
-            low: low_next,
-            high: high_next,
+            low: low.next,
+            high: high.next,
         },
     }
 }
 
 // The word RL# or RH# of a decoder's signal: its 15 bits, and a 0 that marks it as valid.
-fn band_output(signal: i16, low: Band, high: Band) -> Output {
-    let word = add(signal, signal);
-    Output {
-        first: big_endian::high(word),
-        second: big_endian::low(word),
-        next: Bands {
-            low: low,
-            high: high,
-        },
-    }
+fn heard(signal: i16) -> Word {
+    add(signal, signal).to_be_bytes()
 }
 
-// The low decoder's word of an octet.
-fn low_word(mode: u8, s: Bands, o: u8) -> Output {
-    let low = s.low;
-    let high = s.high;
-    let t = low_heard(mode, low, o);
-    let next = t.next;
-    let heard = t.signal;
-    band_output(heard.value, next, high)
+// What makes the words of a file.
+#[derive(Clone, Copy)]
+pub(crate) enum Maker {
+    Coders,
+    // In this mode.
+    LowDecoder(u8),
+    HighDecoder,
 }
 
-// The high decoder's word of an octet.
-fn high_word(s: Bands, o: u8) -> Output {
-    let low = s.low;
-    let high = s.high;
-    let t = high_heard(high, o);
-    let next = t.next;
-    let heard = t.signal;
-    band_output(heard.value, low, next)
-}
-
-// What the coders (D or d) or a decoder make of one word.
-fn made(maker: u8, s: Bands, first: u8, second: u8) -> Output {
-    if second % 2 == 1 {
-        return reset();
-    }
-    match maker {
-        48 => high_word(s, first),
-        49..=51 => low_word(maker - 48, s, first),
-        _ => coded(s, big_endian::sample(first, second)),
-    }
-}
-
-// Whether two words are the same.
-fn same(first: u8, second: u8, other_first: u8, other_second: u8) -> bool {
-    first == other_first && second == other_second
-}
-
-// The first of n words in which what is made of the given is not the wanted, or n.
-pub(crate) fn first_wrong(maker: u8, given: &[u8; 40000], wanted: &[u8; 40000], n: usize) -> usize
-    requires { n ≤ 20000 }
-{
-    let mut s = start();
-    let mut i: usize = 0;
-    while i < n {
-        let t = made(maker, s, given[2 * i], given[2 * i + 1]);
-        if !same(t.first, t.second, wanted[2 * i], wanted[2 * i + 1]) {
-            return i;
+impl From<u8> for Maker {
+    // By the last letter of the file's name. The coders' is D, and any letter stands for them that stands for no decoder.
+    fn from(letter: u8) -> Maker {
+        match letter {
+            b'0' => Maker::HighDecoder,
+            b'1'..=b'3' => Maker::LowDecoder(letter - b'0'),
+            _ => Maker::Coders,
         }
-        s = t.next;
-        i += 1;
     }
-    n
+}
+
+impl Maker {
+    // What is made of one word. While the input resets, the output is marked as not valid.
+    fn output(self, s: Bands, word: Word) -> Output {
+        let [first, second] = word;
+        if second % 2 == 1 {
+            return Output {
+                word: [0, 1],
+                next: Bands::reset(),
+            };
+        }
+        match self {
+            Maker::Coders => coded(s, i16::from_be_bytes(word)),
+            Maker::LowDecoder(mode) => {
+                let low = low_heard(mode, s.low, first);
+                Output {
+                    word: heard(low.signal.value),
+                    next: Bands { low: low.next, ..s },
+                }
+            }
+            Maker::HighDecoder => {
+                let high = high_heard(s.high, first);
+                Output {
+                    word: heard(high.signal.value),
+                    next: Bands {
+                        high: high.next,
+                        ..s
+                    },
+                }
+            }
+        }
+    }
+
+    // The place of the first wanted word that is not what is made of the given one.
+    pub(crate) fn first_wrong(self, given: &[Word], wanted: &[Word]) -> Option<usize> {
+        let mut s = Bands::reset();
+        given.iter().zip(wanted).position(|(given, wanted)| {
+            let output = self.output(s, *given);
+            s = output.next;
+            output.word != *wanted
+        })
+    }
 }

@@ -6,14 +6,33 @@
 mod bands;
 mod text;
 
-ghost use Rattle.std.specs.Prelude.{◌≡◌, ◌≤◌, length, take};
+ghost use Rattle.std.specs.Prelude.{◌≤◌, IfSome};
 
-use bands::first_wrong;
+use bands::Maker;
 use std::env::{Env, FillError};
 use std::fs::File;
-use std::io;
 use std::io::{ErrorKind, Print, Read, Stderr, Stdout};
 use std::rt::Files;
+use std::{fmt, io};
+use text::{Row, Word};
+
+// What is wrong with a pair of files.
+#[derive(Clone, Copy, Debug, PartialEq, Eq)]
+enum Fault {
+    // Either has no words or a damaged line, or they have not the same number of words.
+    NotRead,
+    // The first word that differs.
+    Word(usize),
+}
+
+impl fmt::Display for Fault {
+    fn fmt<W: fmt::Write>(&self, f: &mut fmt::Formatter<W>) -> fmt::Result {
+        match self {
+            Fault::NotRead => write!(f, "not read, or not as many words as its input"),
+            Fault::Word(place) => write!(f, "the first word that differs is {place}"),
+        }
+    }
+}
 
 // Opens a file to read. Its name has to be UTF-8.
 fn opened(files: &impl Files<File = File>, name: &[u8]) -> io::Result<File> {
@@ -23,57 +42,71 @@ fn opened(files: &impl Files<File = File>, name: &[u8]) -> io::Result<File> {
     }
 }
 
-// Reads until the text is full, the file ends or a read fails, and answers how many bytes there are.
-fn read_full(file: &mut File, text: &mut [u8]) -> usize
-    ensures { result ≤ length text.new }
-{
+// Reads until there is no more room, the file ends or a read fails, and answers what there is.
+fn read_full<'a>(file: &mut impl Read, room: &'a mut [u8]) -> &'a [u8] {
     let mut n = 0;
-    while n < text.len() {
-        match file.read(&mut text[n..]) {
+    while n < room.len() {
+        match file.read(&mut room[n..]) {
             Ok(more) if 0 < more => n += more,
             _ => break,
         }
     }
-    n
+    &room[..n]
 }
 
-// Reads a file to its end and answers how many bytes it has, or 0 where it cannot be opened or there is no room for all.
-// Where a read fails, which is said, it answers how many there are before that.
-fn read_text(files: &impl Files<File = File>, err: &Stderr, name: &[u8], text: &mut [u8]) -> usize
-    ensures in_bounds { result ≤ length text.new }
-    ensures prefix { result ≡ length (take result text.new) }
-{
+// Reads a file to its end: its text, if it can be opened and there is room for all of it. Where a read fails, which is said, the text is
+// what there is before that.
+fn read_text<'a>(
+    files: &impl Files<File = File>,
+    err: &Stderr,
+    name: &[u8],
+    room: &'a mut [u8],
+) -> Option<&'a [u8]> {
     let mut file = match opened(files, name) {
         Ok(file) => file,
         Err(error) => {
             refusal::fail(err, name, error);
-            return 0;
+            return None;
         }
     };
-    let got = read_full(&mut file, text);
-    let mut byte = [0u8; 1];
-    match file.read(&mut byte) {
-        Ok(0) => got,
-        Ok(_) => 0,
-        Err(error) => {
-            refusal::fail(err, name, error);
-            got
-        }
+    let text = read_full(&mut file, room);
+    match file.read(&mut [0]) {
+        Ok(0) => {}
+        Ok(_) => return None,
+        Err(error) => refusal::fail(err, name, error),
     }
+    Some(text)
 }
 
-// Reads a file and answers how many bytes its words are, or 0 where it cannot be read or a line is damaged.
-fn load(
+// The words of a file, if it can be read and none of its lines is damaged.
+fn load<'a>(
     files: &impl Files<File = File>,
     err: &Stderr,
     name: &[u8],
-    bytes: &mut [u8; 40000],
-) -> usize
-    ensures { result ≤ 40000 }
-{
-    let mut text = [0u8; 80000];
-    let got = read_text(files, err, name, &mut text);
-    text::words(&text[..got], bytes)
+    room: &'a mut [Row],
+) -> Result<&'a [Word], Fault> {
+    let mut bytes = [0; 80000];
+    read_text(files, err, name, &mut bytes)
+        .and_then(|text| text::words(text, room))
+        .ok_or(Fault::NotRead)
+}
+
+// Compares what is made of one file with another, and answers how many words are the same.
+fn compare(rt: &HostRuntime, input: &[u8], expected: &[u8]) -> Result<usize, Fault> {
+    let err = rt.stderr();
+    let mut given = [[[0; 2]; 16]; 1250];
+    let mut wanted = [[[0; 2]; 16]; 1250];
+    let given = load(rt, &err, input, &mut given);
+    let letter = expected.last().ok_or(Fault::NotRead)?;
+    let wanted = load(rt, &err, expected, &mut wanted)?;
+    let given = given?;
+    if given.is_empty() || given.len() != wanted.len() {
+        return Err(Fault::NotRead);
+    }
+    match Maker::from(*letter).first_wrong(given, wanted) {
+        Some(place) => Err(Fault::Word(place)),
+        None => Ok(wanted.len()),
+    }
 }
 
 // Says that the words of the expected file are the same.
@@ -82,74 +115,54 @@ fn say_same(out: &Stdout, name: &[u8], words: usize) -> io::Result<()> {
     println!(out; ": same, {words} words")
 }
 
-// Says, on standard error, that the files have not the same number of sound words, or which word is the first that differs.
-fn say_wrong(err: &Stderr, name: &[u8], words: usize, wrong: usize) -> io::Result<()> {
+// Says, on standard error, what is wrong with it.
+fn say_wrong(err: &Stderr, name: &[u8], fault: Fault) -> io::Result<()> {
     err.write_all(name)?;
-    if words == 0 {
-        return eprintln!(err; ": not read, or not as many words as its input");
-    }
-    eprintln!(err; ": the first word that differs is {wrong}")
+    eprintln!(err; ": {fault}")
 }
 
-// Compares what is made of one file with another.
-fn compare(rt: &HostRuntime, input: &[u8], expected: &[u8]) -> io::Result<()> {
-    let err = rt.stderr();
-    let mut given = [0u8; 40000];
-    let mut wanted = [0u8; 40000];
-    let n = expected.len();
-    let words = load(rt, &err, input, &mut given) / 2;
-    if n == 0 || load(rt, &err, expected, &mut wanted) / 2 != words || words == 0 {
-        return say_wrong(&err, expected, 0, 0);
+// An argument, or nothing where there is no room for it.
+fn argument<'a>(env: &impl Env, i: usize, room: &'a mut [u8]) -> &'a [u8] {
+    match env.arg(i, room) {
+        Ok(n) => &room[..n],
+        Err(_) => &[],
     }
-    let wrong = first_wrong(expected[n - 1], &given, &wanted, words);
-    if wrong < words {
-        return say_wrong(&err, expected, words, wrong);
-    }
-    say_same(&rt.stdout(), expected, words)
-}
-
-// Copies argument i, and answers how many bytes it has, or 0 where there is no room for it.
-fn copied(env: &impl Env, i: usize, name: &mut [u8]) -> usize
-    ensures { result ≤ length name.new }
-{
-    env.arg(i, name).unwrap_or(0)
 }
 
 // Compares the pair of files whose names are arguments i and i + 1.
 fn pair(rt: &HostRuntime, i: usize) -> io::Result<()>
     requires { i ≤ 1000 }
 {
-    let mut input = [0u8; 4096];
-    let mut expected = [0u8; 4096];
-    let n = copied(rt, i, &mut input);
-    let m = copied(rt, i + 1, &mut expected);
-    compare(rt, &input[..n], &expected[..m])
+    let mut input = [0; 4096];
+    let mut expected = [0; 4096];
+    let input = argument(rt, i, &mut input);
+    let expected = argument(rt, i + 1, &mut expected);
+    match compare(rt, input, expected) {
+        Ok(words) => say_same(&rt.stdout(), expected, words),
+        Err(fault) => say_wrong(&rt.stderr(), expected, fault),
+    }
+}
+
+// How many words the program was started with, its own name among them, if at most 1000.
+fn word_count(env: &impl Env) -> Option<usize>
+    ensures { IfSome result (λ n. n ≤ 1000) }
+{
+    (0..1001).find(|i| matches!(env.arg(*i, &mut []), Err(FillError::NotPresent)))
 }
 
 // Compares pair after pair.
-fn run(rt: &HostRuntime, count: usize) -> io::Result<()> {
-    let mut i: usize = 1;
-    while i < 1000 && i + 1 < count {
+fn run(rt: &HostRuntime, count: usize) -> io::Result<()>
+    requires { count ≤ 1000 }
+{
+    for i in (1..count).step_by(2) {
         pair(rt, i)?;
-        i += 2;
     }
     Ok(())
 }
 
-// How many words the program was started with, its own name among them, or 1001 where there are more than 1000.
-fn word_count(env: &impl Env) -> usize {
-    for i in 0..1001 {
-        if matches!(env.arg(i, &mut []), Err(FillError::NotPresent)) {
-            return i;
-        }
-    }
-    1001
-}
-
 fn main(rt: HostRuntime) -> io::Result<()> {
-    let count = word_count(&rt);
-    if count < 3 || 1000 < count || count % 2 == 0 {
-        return eprintln!(rt; "usage: sequences INPUT EXPECTED [INPUT EXPECTED ..]");
+    match word_count(&rt) {
+        Some(count) if 3 <= count && count % 2 == 1 => run(&rt, count),
+        _ => eprintln!(rt; "usage: sequences INPUT EXPECTED [INPUT EXPECTED ..]"),
     }
-    run(&rt, count)
 }

@@ -8,6 +8,7 @@ use native.Mathlib.Omega.{arith}
 use borrow.Author.Tests.{eq-eqb, ne_eqb}
 use lib.IntN.{ℤ, pos}
 use lib.ListN.{length, set, take, drop, replicate, length-drop}
+use Rattle.std.proofs.lemmas.List.{take-take, drop-take}
 use lib.Seq.{length-take-le, take_all, drop-drop, get_or-take, get_or-drop}
 use borrow.Rule.Slice.PartMut.{mid_of, put_mid, same_len_mid, mid_len}
 use Rattle.laws.specs.Parts.{behind}
@@ -17,7 +18,7 @@ use Rattle.g722.specs.declared.Coder.{Coder}
 use Rattle.g722.specs.declared.Decoder.{Decoder}
 use Rattle.big_endian.specs.Bytes.{pcm_samples, pcm_bytes, load_call, store_call, load_all, store_all}
 use Rattle.big_endian.specs.Bytes.{samples_of_first, samples_of_rest, bytes_join, bytes_length}
-use Rattle.state.specs.Layout.{band_values, coder_values, decoder_values, coder_bytes, decoder_bytes, write_call}
+use Rattle.state.specs.Layout.{band_values, write_call}
 use Rattle.state.specs.Layout.{value, part, band_of, coder_of, decoder_of, holds, no_coder, no_decoder, coder_in, decoder_in}
 
 -- ---- read
@@ -39,8 +40,17 @@ module _ (k n : ℕ) (z : List ℤ) {r : List ℤ} where
   values_behind s h l e =
       values_at (drop 1 s) (rw length-drop (omega arith)) l (e ∙ ap (λ x. (load_call (take (2 * n) x) z).left) (sym (drop-drop (2 * k) 1 s)))
 
+-- a part of a part
+pub part_of_part : (a n k m : ℕ) (v : List ℤ) → k + m ≤ n → part k m (part a n v) ≡ part (a + k) m v
+part_of_part a n k m v h =
+    let e : n ≡ k + (n - k) = omega arith in
+    ap (λ (x : ℕ). take m (drop k (take x (drop a v)))) e
+    ∙ ap (take m) (drop-take k (n - k) (drop a v))
+    ∙ take-take m (n - k) (drop k (drop a v)) (omega arith)
+    ∙ ap (take m) (drop-drop k a v)
+
 -- a band that stands there
-band_behind : (k : ℕ) (s : List ℕ) → band_of (pcm_samples (take 40 (drop (1 + 2 * k) s))) ≡ band_of (part k 20 (pcm_samples (drop 1 s)))
+pub band_behind : (k : ℕ) (s : List ℕ) → band_of (pcm_samples (take 40 (drop (1 + 2 * k) s))) ≡ band_of (part k 20 (pcm_samples (drop 1 s)))
 band_behind k s =
     ap band_of (ap (λ x. pcm_samples (take 40 x)) (sym (drop-drop (2 * k) 1 s))
     ∙ samples_of_first 20 (drop (2 * k) (drop 1 s)) ∙ ap (take 20) (samples_of_rest k (drop 1 s)))
@@ -71,17 +81,17 @@ band_read v {rest = rest} f g h =
 
 -- a record that bytes hold, and what they are read as where they hold none
 module _ (s : List ℕ) {low high : Band} where
-  module _ (l : low ≡ band_of (pcm_samples (take 40 (drop 1 s)))) (h : high ≡ band_of (pcm_samples (take 40 (drop 41 s)))) where
+  module _ (l : low ≡ band_of (part 0 20 (pcm_samples (drop 1 s)))) (h : high ≡ band_of (part 20 20 (pcm_samples (drop 1 s)))) where
     pub coder_read : {past : List ℤ} → holds 1 s ≡ true → past ≡ part 40 22 (pcm_samples (drop 1 s))
         → ◌≡◌ {A = Coder} (record { low = low; high = high; past = past }) (coder_in s)
     unfolding coder_in coder_of
-    coder_read e p = rw e (λ i. record { low = (l ∙ band_behind 0 s) i; high = (h ∙ band_behind 20 s) i; past = p i })
+    coder_read e p = rw e (λ i. record { low = l i; high = h i; past = p i })
 
     pub decoder_read : {rl rh : List ℤ} → holds 2 s ≡ true → rl ≡ part 40 11 (pcm_samples (drop 1 s))
         → rh ≡ part 51 11 (pcm_samples (drop 1 s)) → ◌≡◌ {A = Decoder} (record { low = low; high = high; past = record { rl = rl; rh = rh } }) (decoder_in s)
     unfolding decoder_in decoder_of
     decoder_read e p q =
-        rw e (λ i. record { low = (l ∙ band_behind 0 s) i; high = (h ∙ band_behind 20 s) i; past = record { rl = p i; rh = q i } })
+        rw e (λ i. record { low = l i; high = h i; past = record { rl = p i; rh = q i } })
 
   module _ (l : low ≡ reset_band (pos 0)) (h : high ≡ reset_band (pos 0)) where
     pub no_coder_lem : holds 1 s ≡ false → ◌≡◌ {A = Coder} (record { low = low; high = high; past = replicate 22 (pos 0) }) (coder_in s)
@@ -152,18 +162,10 @@ pub band_written : (s : Band) {xs : List ℕ}
 unfolding band_values
 band_written s f = whole f ∙ join3 s.zeros.b s.zeros.d _
 
-pub coder_written : (c : Coder) {xs : List ℕ}
-    → Front 125 125 ((1 ∷ pcm_bytes (band_values c.low ++ band_values c.high)) ++ pcm_bytes c.past) xs
-    → xs ≡ coder_bytes c
-unfolding coder_bytes coder_values
-coder_written c f =
-    whole f ∙ ap (λ x. 1 ∷ x) (sym (bytes_join (band_values c.low ++ band_values c.high) c.past)
-    ∙ ap pcm_bytes (append_assoc (band_values c.low) (band_values c.high) c.past))
-
-pub decoder_written : (d : Decoder) {xs : List ℕ}
-    → Front 125 125 (((2 ∷ pcm_bytes (band_values d.low ++ band_values d.high)) ++ pcm_bytes d.past.rl) ++ pcm_bytes d.past.rh) xs
-    → xs ≡ decoder_bytes d
-unfolding decoder_bytes decoder_values
-decoder_written d f =
-    whole f ∙ ap (λ x. 2 ∷ x) (join3 (band_values d.low ++ band_values d.high) d.past.rl d.past.rh
-    ∙ ap pcm_bytes (append_assoc (band_values d.low) (band_values d.high) (d.past.rl ++ d.past.rh)))
+-- a record's first byte, its bands and the values behind them
+pub all_written : (kind : ℕ) (low high : Band) (past : List ℤ) {xs : List ℕ}
+    → Front 125 125 ((kind ∷ pcm_bytes (band_values low ++ band_values high)) ++ pcm_bytes past) xs
+    → xs ≡ kind ∷ pcm_bytes (band_values low ++ (band_values high ++ past))
+all_written kind low high past f =
+    whole f ∙ ap (λ x. kind ∷ x) (sym (bytes_join (band_values low ++ band_values high) past)
+    ∙ ap pcm_bytes (append_assoc (band_values low) (band_values high) past))

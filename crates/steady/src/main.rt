@@ -8,41 +8,29 @@ use std::io::Print;
 
 // Whether XL and XH are these after 24 samples c.
 fn steady(c: i16, low: i16, high: i16) -> bool {
-    let past = [c; 22];
-    let pair = [c, c];
-    let mut xl = [0i16; 1];
-    let mut xh = [0i16; 1];
-    mirror::split(past, &pair, &mut xl, &mut xh);
-    arith::equal(xl[0], low) && arith::equal(xh[0], high)
+    let mut xl = [0];
+    let mut xh = [0];
+    mirror::split([c; 22], &[c, c], &mut xl, &mut xh);
+    xl == [low] && xh == [high]
 }
 
-// Counts the samples of which it holds, from the lowest on.
-fn count(more: i16, high: i16) -> u64 {
-    let mut held: u64 = 0;
-    let mut c: i16 = -16384;
-    let mut k: u64 = 0;
-    while k < 32768 {
-        if steady(c, arith::add(c, more), high) {
-            held += 1;
-        }
-        c = arith::add(c, 1);
-        k += 1;
-    }
-    held
+// Counts the samples of which it holds.
+fn count(more: i16, high: i16) -> usize {
+    (-16384..16384)
+        .filter(|c| steady(*c, arith::add(*c, more), high))
+        .count()
 }
 
 // The number that argument i gives, or 0 where it gives none below 32768.
 fn told(rt: &impl Env, i: usize) -> i16 {
-    let mut word = [0u8; 5];
+    let mut word = [0; 5];
     let n = rt.arg(i, &mut word).unwrap_or(0);
-    let number = argument::number(&word[..n]);
-    if number < 32768 {
-        return number as i16;
-    }
-    0
+    argument::number(&word[..n])
+        .and_then(|number| i16::try_from(number).ok())
+        .unwrap_or(0)
 }
 
-fn say(out: &impl Print, held: u64) -> io::Result<()> {
+fn say(out: &impl Print, held: usize) -> io::Result<()> {
     println!(out; "{held} of 32768 steady levels")
 }
 
@@ -50,7 +38,8 @@ fn say(out: &impl Print, held: u64) -> io::Result<()> {
 fn main(rt: HostRuntime) -> io::Result<()> {
     let held = count(told(&rt, 1), told(&rt, 2));
     if held == 32768 {
-        return say(&rt.stdout(), held);
+        say(&rt.stdout(), held)
+    } else {
+        say(&rt.stderr(), held)
     }
-    say(&rt.stderr(), held)
 }

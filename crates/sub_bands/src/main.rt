@@ -2,14 +2,13 @@
 // sub-band coders from reset, without the transmit filter. They are blocks and take any 16-bit number, so no signal is out of range.
 #![tactic(auto)]
 
-ghost use Rattle.std.specs.Prelude.{◌≡◌, ◌*◌, ◌≤◌, length};
+ghost use Rattle.std.specs.Prelude.{◌≤◌, length};
 
-use big_endian::sample;
 use g722::Band;
 use plain::bands_coded;
+use refusal::Stop;
 use std::env::{Env, FillError};
-use std::io;
-use std::io::{ErrorKind, Print, Read, Stderr, Stdin, Stdout};
+use std::io::{Read, Write};
 
 // Both bands of a coder.
 #[derive(Clone, Copy)]
@@ -18,131 +17,72 @@ struct Bands {
     high: Band,
 }
 
-// What a piece of the stream leaves: the bands after it, and whether to read on.
-#[derive(Clone, Copy)]
-struct Onward {
-    next: Bands,
-    more: bool,
-}
-
-// The bands at reset.
-fn reset() -> Bands {
-    let c = coder::reset();
-    let low = c.low;
-    let high = c.high;
-    Bands {
-        low: low,
-        high: high,
-    }
-}
-
-// Codes pairs to octets.
-fn code(b: Bands, pairs: &[u8], octets: &mut [u8]) -> Bands
-    requires { length pairs.now ≡ 4 * length octets.old }
-{
-    let mut low = b.low;
-    let mut high = b.high;
-    for i in 0..octets.len() {
-        let xl = sample(pairs[4 * i], pairs[4 * i + 1]);
-        let xh = sample(pairs[4 * i + 2], pairs[4 * i + 3]);
-        let t = bands_coded(low, high, xl, xh);
-        octets[i] = t.octet;
-        low = t.low;
-        high = t.high;
-    }
-    Bands {
-        low: low,
-        high: high,
-    }
-}
-
-// Writes bytes, and says so where they cannot be written.
-fn written(out: &Stdout, err: &Stderr, bytes: &[u8]) -> bool {
-    if let Err(error) = out.write_all(bytes) {
-        refusal::fail(err, b"write", error);
-        return false;
-    }
-    true
-}
-
-// Sends a piece: its whole pairs.
-fn send(out: &Stdout, err: &Stderr, b: Bands, bytes: &[u8]) -> Onward
-    requires { length bytes.now ≤ 32000 }
-{
-    let mut octets = [0u8; 8000];
-    let n = bytes.len() / 4;
-    let next = code(b, &bytes[..4 * n], &mut octets[..n]);
-    if !written(out, err, &octets[..n]) {
-        return last(next);
-    }
-    Onward {
-        next: next,
-        more: true,
-    }
-}
-
-// After the last piece.
-fn last(b: Bands) -> Onward {
-    Onward {
-        next: b,
-        more: false,
-    }
-}
-
-// The input stopped within a pair: it could not be read on, or its end is left out.
-fn say_cut_off(err: &Stderr, error: io::Error) {
-    if error.kind() != ErrorKind::UnexpectedEof {
-        refusal::fail(err, b"read", error);
-        return;
-    }
-    refusal::say(err, 3, 0);
-    let _ = eprintln!(err; "left out: what follows the last whole pair of signals");
-}
-
-// Sends the pairs before that in which the input stopped.
-fn send_last(out: &Stdout, err: &Stderr, b: Bands, bytes: &[u8], error: io::Error) -> Onward
-    requires { length bytes.now ≤ 32000 }
-{
-    let t = send(out, err, b, bytes);
-    if t.more {
-        say_cut_off(err, error);
-    }
-    last(t.next)
-}
-
-// Reads what has arrived and the rest of its last pair, and sends that: nothing waits for a longer piece.
-fn turn(input: &mut Stdin, out: &Stdout, err: &Stderr, b: Bands) -> Onward {
-    let mut bytes = [0u8; 32000];
-    let n = match input.read(&mut bytes) {
-        Ok(n) => n,
-        Err(error) => {
-            refusal::fail(err, b"read", error);
-            return last(b);
+impl Bands {
+    // The bands at reset.
+    fn reset() -> Bands {
+        let c = coder::reset();
+        Bands {
+            low: c.low,
+            high: c.high,
         }
-    };
+    }
+}
+
+// Codes as many pairs to octets as there are of both, and answers the bands after them.
+fn code(mut bands: Bands, pairs: &[[u8; 4]], octets: &mut [u8]) -> Bands {
+    for (octet, &[a, b, c, d]) in octets.iter_mut().zip(pairs) {
+        let low = i16::from_be_bytes([a, b]);
+        let high = i16::from_be_bytes([c, d]);
+        let coded = bands_coded(bands.low, bands.high, low, high);
+        *octet = coded.octet;
+        bands = Bands {
+            low: coded.low,
+            high: coded.high,
+        };
+    }
+    bands
+}
+
+// Sends the whole pairs of a piece, and answers the bands after them.
+fn send(out: &mut impl Write, bands: Bands, bytes: &[u8]) -> Result<Bands, Stop>
+    requires { length bytes.now ≤ 32000 }
+{
+    let mut octets = [0; 8000];
+    let (pairs, _) = bytes.as_chunks();
+    let octets = &mut octets[..pairs.len()];
+    let next = code(bands, pairs, octets);
+    out.write_all(octets).map_err(Stop::Write)?;
+    Ok(next)
+}
+
+// Reads what has arrived and the rest of its last pair, and sends that: nothing waits for a longer piece. At the end of the input no
+// bands are left.
+fn turn(input: &mut impl Read, out: &mut impl Write, bands: Bands) -> Result<Option<Bands>, Stop> {
+    let mut bytes = [0; 32000];
+    let n = input.read(&mut bytes).map_err(Stop::Read)?;
     if n == 0 {
-        return last(b);
+        return Ok(None);
     }
-    let whole = n - n % 4;
-    if whole == n {
-        return send(out, err, b, &bytes[..n]);
+    let end = n.next_multiple_of(4);
+    if n < end
+        && let Err(error) = input.read_exact(&mut bytes[n..end])
+    {
+        send(out, bands, &bytes[..n])?;
+        return Err(Stop::Within("pair of signals", error));
     }
-    match input.read_exact(&mut bytes[n..whole + 4]) {
-        Ok(()) => send(out, err, b, &bytes[..whole + 4]),
-        Err(error) => send_last(out, err, b, &bytes[..whole], error),
-    }
+    Ok(Some(send(out, bands, &bytes[..end])?))
 }
 
 // Piece after piece. A proved loop has to end, and nothing says that the input does: no run has so many pieces.
-fn run(input: &mut Stdin, out: &Stdout, err: &Stderr) {
-    let mut b = reset();
+fn run(input: &mut impl Read, out: &mut impl Write) -> Result<(), Stop> {
+    let mut bands = Bands::reset();
     for _ in 0..u64::MAX {
-        let t = turn(input, out, err, b);
-        if !t.more {
+        let Some(next) = turn(input, out, bands)? else {
             break;
-        }
-        b = t.next;
+        };
+        bands = next;
     }
+    Ok(())
 }
 
 // Whether the program was started with a word of this number, its own name being word 0.
@@ -155,5 +95,7 @@ fn main(rt: HostRuntime) {
         let _ = eprintln!(rt; "usage: sub_bands < signals > octets");
         return;
     }
-    run(&mut rt.stdin(), &rt.stdout(), &rt.stderr());
+    if let Err(stop) = run(&mut rt.stdin(), &mut rt.stdout()) {
+        refusal::report(&rt.stderr(), stop);
+    }
 }

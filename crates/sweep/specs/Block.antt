@@ -33,6 +33,10 @@ heard_next high s o = cond high (high_next s o) (low_next s o)
 unfoldable pub takes : Poles → ℕ → ℕ → Bool
 takes p items places = not (ltb 160 places) && eqb items places && good_poles p
 
+-- what a loop that gives and goes on so makes of a block
+abbrev pub run_of : {A B : Type 0} → (Band → A → B) → (Band → A → Band) → Band → List A → Outcome Band (List B)
+run_of out next s xs = record { answer = last next s xs; left = outs out next s xs }
+
 -- what it makes of one
 abbrev pub coded_run : Bool → Band → List ℤ → Outcome Band (List ℕ)
 coded_run high s x = record { answer = last (coded_next high) s x; left = outs (word_of high) (coded_next high) s x }

@@ -1,3 +1,4 @@
 -- A band over a block, and its turns.
 pub mod Block
+pub mod Octet
 pub mod Turn

@@ -2,16 +2,15 @@
 ghost use Rattle.std.specs.Prelude.{◌≡◌, cond, ◌≤◌, nat_abs};
 ghost use Rattle.g722.specs.Tables.{ilb};
 ghost use Rattle.g722.specs.Quantise.{scale_at};
-ghost use Rattle.idle.specs.Factors.{factors_of, Held, top, weighed};
+ghost use Rattle.idle.specs.Factors.{factors_of, top, weighed};
 
-use crate::poles::fit;
-use arith::{clamp, wide};
+use arith::{clamp, fit, wide};
 use g722::Factors;
 use idle::Scales;
 
 // The factors of a record in 32 bits.
 pub(crate) fn scales(f: Factors) -> Scales
-    ensures { (factors_of result ≡ f) × Held result }
+    ensures { factors_of result ≡ f }
 {
     Scales {
         log: wide(f.log),
@@ -21,7 +20,6 @@ pub(crate) fn scales(f: Factors) -> Scales
 
 // And back.
 pub(crate) fn factors(f: Scales) -> Factors
-    requires { Held f }
     ensures { result ≡ factors_of f }
 {
     Factors {
@@ -34,20 +32,14 @@ pub(crate) fn factors(f: Scales) -> Factors
 fn top(high: bool) -> i32
     ensures { result ≡ top high }
 {
-    if high {
-        return 22528;
-    }
-    18432
+    if high { 22528 } else { 18432 }
 }
 
 // The address of log factor 0.
 fn first(high: bool) -> u32
     ensures { result ≡ cond high 0 64 }
 {
-    if high {
-        return 0;
-    }
-    64
+    if high { 0 } else { 64 }
 }
 
 // The scale factor at an address.
@@ -61,14 +53,13 @@ fn scale_at(table: &[u16; 32], k: usize) -> i32
 
 // The factors after a weight.
 pub(crate) fn weighed(high: bool, table: &[u16; 32], f: Scales, w: i16) -> Scales
-    requires table_value { table.now ≡ ilb }
-    requires held { Held f }
-    ensures { (factors_of result ≡ weighed high w (factors_of f)) × Held result }
+    requires { table.now ≡ ilb }
+    ensures { factors_of result ≡ weighed high w (factors_of f) }
 {
     let log = fit(((f.log * 32512) >> 15) + wide(w), 0, top(high));
     let k = log as u32 / 64 + first(high);
     Scales {
-        log: log,
+        log,
         scale: scale_at(table, k as usize),
     }
 }

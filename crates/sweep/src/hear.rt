@@ -1,20 +1,16 @@
-// The loop at the decoder: octets to the signals that are heard of a band, in full.
-ghost use Rattle.std.specs.Prelude.{◌≡◌, true, cond, ◌^◌, ◌≤◌, ◌<◌, length};
-ghost use Rattle.std.specs.Int.Signed.{mag};
+// The decoder's end: octets to the signals that are heard of a band, in full.
+ghost use Rattle.std.specs.Prelude.{◌≡◌, cond, ◌<◌};
 ghost use Rattle.laws.specs.Outcome.{Does};
-ghost use Rattle.g722.specs.Records.{good_poles};
-ghost use Rattle.idle.specs.Recursive.{poles_of, Fit};
-ghost use Rattle.idle.specs.Factors.{factors_of, Held};
-ghost use Rattle.sweep.specs.Block.{heard_run, heard_block};
-ghost use Rattle.sweep.specs.Turn.{Lent, Outputs, word_in, HeardBy};
+ghost use Rattle.at_hand.specs.Signed.{outputs_of};
+ghost use Rattle.sweep.specs.Block.{signal_of, heard_next, heard_block};
+ghost use Rattle.sweep.specs.Octet.{word_in};
 
-use crate::factors::{factors, scales};
-use crate::poles::{narrowed, widened};
-use crate::rows::{adapt_at, begin, filtez_at, gathered, plain_at, rows};
-use crate::turn::{inverse, predic, turn};
-use crate::{Heard, takes};
+use crate::lent::Tables;
+use crate::run::{End, run};
+use crate::turn::{inverse, predic};
+use crate::{Turned, takes};
 use arith::clamp;
-use at_hand::{ilb, outputs, weights};
+use at_hand::outputs;
 use g722::Band;
 use idle::{Recursive, Scales};
 
@@ -22,10 +18,7 @@ use idle::{Recursive, Scales};
 fn places(high: bool) -> u32
     ensures { result ≡ cond high 4 0 }
 {
-    if high {
-        return 4;
-    }
-    0
+    if high { 4 } else { 0 }
 }
 
 // A band's word of an octet, in six bits. Of the high band's the upper four count.
@@ -35,71 +28,29 @@ fn word(high: bool, o: u8) -> u8
     (o >> places(high)) % 64
 }
 
-// A turn, from the output of the transversal part and the octet, with the outputs h of the mode in force.
-fn hear_turn(
-    high: bool,
-    ilb: &[u16; 32],
-    q: &[i16; 64],
-    h: &[i16; 64],
-    w: &[i16; 16],
-    p: Recursive,
-    f: Scales,
-    sz: i32,
-    o: u8,
-) -> Heard
-    requires lent { Lent high ilb.now q.now w.now }
-    requires fit { Fit p }
-    requires held { Held f }
-    requires sz_bound { mag sz < 2 ^ 15 }
-    requires outputs { Outputs high h.now }
-    ensures { HeardBy high h.now (poles_of p) (factors_of f) sz o result }
-{
-    let s = predic(p, sz);
-    let word = word(high, o);
-    let y = s + inverse(h[word as usize], f.scale);
-    Heard {
-        signal: clamp(y, -32768, 32767),
-        turn: turn(high, ilb, q, w, p, f, sz, s, word),
-    }
+// With the outputs of the mode in force.
+#[derive(Drop)]
+struct Hearer {
+    tables: Tables,
+    mode: u8,
+    heard: [i16; 64],
+    ghost heard_are: { heard ≡ outputs_of tables.high mode },
 }
 
-// A block that is taken, in a mode in force. The coefficients move from row to row and a difference joins the others at each turn.
-fn hear_all(high: bool, mode: u8, s: Band, octets: &[u8], signals: &mut [i16]) -> Band
-    requires signals_len_bound { length signals.old ≤ 160 }
-    requires octets_len { length octets.now ≡ length signals.old }
-    requires poles_value { good_poles s.poles ≡ true }
-    ensures { Does (heard_run high mode s octets.now) result signals.new }
-{
-    let ilb = ilb();
-    let q = outputs(high, 3);
-    let h = outputs(high, mode);
-    let w = weights(high);
-    let zeros = s.zeros;
-    let zb = zeros.b;
-    let zd = zeros.d;
-    let mut b = rows(zb);
-    let mut d = [1i16; 168];
-    begin(&mut d, zd);
-    let mut p = widened(s.poles);
-    let mut f = scales(s.factors);
-    let mut o: usize = 0;
-    for i in 0..signals.len() {
-        let plain = plain_at(&b, &d, o, i);
-        let sz = filtez_at(&b, &d, o, i, plain);
-        let heard = hear_turn(high, &ilb, &q, &h, &w, p, f, sz, octets[i]);
-        let y = heard.signal;
-        signals[i] = y;
-        let t = heard.turn;
-        adapt_at(&mut b, &mut d, o, i, t.d);
-        p = t.poles;
-        f = t.factors;
-        o = 8 - o;
-    }
-    let z = gathered(&b, &d, o, signals.len());
-    Band {
-        zeros: z,
-        poles: narrowed(p),
-        factors: factors(f),
+impl End for Hearer {
+    type In = u8;
+
+    type Out = i16;
+
+    ghost out = { λ h. signal_of h.tables.high h.mode };
+
+    ghost next = { λ h. heard_next h.tables.high };
+
+    fn turn(&self, p: Recursive, f: Scales, sz: i32, o: u8) -> (i16, Turned) {
+        let s = predic(p, sz);
+        let word = word(self.tables.high, o);
+        let y = s + inverse(self.heard[word as usize], f.scale);
+        (clamp(y, -32768, 32767), self.tables.turn(p, f, sz, s, word))
     }
 }
 
@@ -107,9 +58,13 @@ fn hear_all(high: bool, mode: u8, s: Band, octets: &[u8], signals: &mut [i16]) -
 pub fn hear_band(high: bool, mode: u8, s: Band, octets: &[u8], signals: &mut [i16]) -> Band
     ensures { Does (heard_block high mode s octets.now signals.old) result signals.new }
 {
-    let poles = s.poles;
-    if !takes(poles, octets.len(), signals.len()) {
+    if !takes(s.poles, octets.len(), signals.len()) {
         return s;
     }
-    hear_all(high, mode, s, octets, signals)
+    let hearer = Hearer {
+        tables: Tables::of(high),
+        mode,
+        heard: outputs(high, mode),
+    };
+    run(&hearer, s, octets, signals)
 }

@@ -4,8 +4,10 @@
 mod code;
 mod factors;
 mod hear;
+mod lent;
 mod poles;
 mod rows;
+mod run;
 mod turn;
 
 ghost use Rattle.std.specs.Prelude.{◌≡◌};
@@ -25,29 +27,9 @@ pub(crate) struct Turned {
     pub(crate) factors: Scales,
 }
 
-// The same with its word, at the coder.
-#[derive(Clone, Copy)]
-pub(crate) struct Said {
-    pub(crate) word: u8,
-    pub(crate) turn: Turned,
-}
-
-// The same with its signal, at the decoder.
-#[derive(Clone, Copy)]
-pub(crate) struct Heard {
-    pub(crate) signal: i16,
-    pub(crate) turn: Turned,
-}
-
 // Whether a block is taken: so many items with so many places for what comes of them, from these coefficients.
 pub(crate) fn takes(p: Poles, items: usize, places: usize) -> bool
     ensures { result ≡ takes p items places }
 {
-    if 160 < places {
-        return false;
-    }
-    if items != places {
-        return false;
-    }
-    good_poles(p)
+    places <= 160 && items == places && good_poles(p)
 }

@@ -1,46 +1,19 @@
 // The recursive part of a predictor in 32 bits: its stops left out where the bounds of its coefficients make them idle.
 ghost use Rattle.std.specs.Prelude.{◌≡◌, cond, ◌≤◌, pos, nat_abs, ◌+ℤ◌, ◌*ℤ◌};
 ghost use Rattle.std.specs.Int.Signed.{shr_z};
-ghost use Rattle.laws.specs.Clamp.{clamp};
-ghost use Rattle.g722.specs.Arithmetic.{neg, stop, same_sign};
+ghost use Rattle.g722.specs.Arithmetic.{neg, stop};
 ghost use Rattle.g722.specs.Band.{filtep, next_poles};
-ghost use Rattle.idle.specs.Recursive.{poles_of, Fit, turned_by, second_of, first_of};
+ghost use Rattle.idle.specs.Recursive.{poles_of, turned_by, second_of, first_of};
 
-use arith::{clamp, wide};
+use arith::{clamp, fit, same, wide};
 use g722::Poles;
 use idle::Recursive;
-
-// x, kept between lo and hi.
-pub(crate) fn fit(x: i32, lo: i32, hi: i32) -> i32
-    ensures { result ≡ clamp lo hi x }
-{
-    if x < lo {
-        return lo;
-    }
-    if hi < x {
-        return hi;
-    }
-    x
-}
-
-// Whether a and b have one sign.
-fn same(a: i32, b: i32) -> bool
-    ensures { result ≡ same_sign a b }
-{
-    if a < 0 {
-        return b < 0;
-    }
-    !(b < 0)
-}
 
 // x if t holds, else y.
 fn choose(t: bool, x: i32, y: i32) -> i32
     ensures { result ≡ cond t x y }
 {
-    if t {
-        return x;
-    }
-    y
+    if t { x } else { y }
 }
 
 // The product shifted right by 15.
@@ -96,7 +69,6 @@ fn first(one: bool, a1: i32, a2: i32) -> i32
 
 // FILTEP.
 pub(crate) fn filtep(w: Recursive) -> i32
-    requires { Fit w }
     ensures { (result ≡ filtep (poles_of w)) × (nat_abs result ≤ 32768) }
 {
     fit(scaled(w.a1, w.t1) + scaled(w.a2, w.t2), -32768, 32767)
@@ -104,17 +76,16 @@ pub(crate) fn filtep(w: Recursive) -> i32
 
 // The recursive part after the partial signal p and the reconstructed signal r, neither stopped.
 pub(crate) fn next(w: Recursive, p: i32, r: i32) -> Recursive
-    requires fit { Fit w }
-    requires r_bound { nat_abs r ≤ 65536 }
-    ensures { (poles_of result ≡ next_poles (poles_of w) (stop p) (stop r)) × Fit result }
+    requires { nat_abs r ≤ 65536 }
+    ensures { poles_of result ≡ next_poles (poles_of w) (stop p) (stop r) }
 {
     let one = same(p, w.p1);
     let two = same(p, w.p2);
     let a2 = second(one, two, w.a1, w.a2);
     let a1 = first(one, w.a1, a2);
     Recursive {
-        a1: a1,
-        a2: a2,
+        a1,
+        a2,
         r1: r,
         r2: w.r1,
         t1: twice(r),
@@ -127,7 +98,7 @@ pub(crate) fn next(w: Recursive, p: i32, r: i32) -> Recursive
 // A record's recursive part in 32 bits, where its coefficients keep their bounds.
 pub(crate) fn widened(s: Poles) -> Recursive
     requires { (nat_abs s.a1 ≤ 27648) × (nat_abs s.a2 ≤ 12288) }
-    ensures { (poles_of result ≡ s) × Fit result }
+    ensures { poles_of result ≡ s }
 {
     Recursive {
         a1: wide(s.a1),
@@ -143,7 +114,6 @@ pub(crate) fn widened(s: Poles) -> Recursive
 
 // And back.
 pub(crate) fn narrowed(w: Recursive) -> Poles
-    requires { Fit w }
     ensures { result ≡ poles_of w }
 {
     Poles {

@@ -3,20 +3,20 @@ ghost use Rattle.std.specs.Prelude.{◌≡◌, ◌^◌, ◌≤◌, ◌<◌, nat_
 ghost use Rattle.std.specs.Int.Signed.{mag};
 ghost use Rattle.g722.specs.Arithmetic.{add, mul};
 ghost use Rattle.g722.specs.Band.{filtep};
-ghost use Rattle.idle.specs.Recursive.{poles_of, Fit};
-ghost use Rattle.idle.specs.Factors.{factors_of, Held};
-ghost use Rattle.sweep.specs.Turn.{Lent, Sound, step_of, step_by};
+ghost use Rattle.idle.specs.Recursive.{poles_of};
+ghost use Rattle.idle.specs.Factors.{factors_of};
+ghost use Rattle.sweep.specs.Turn.{step_of, step_by};
 
 use crate::Turned;
 use crate::factors::weighed;
-use crate::poles::{filtep, fit, next};
-use arith::wide;
+use crate::lent::Tables;
+use crate::poles::{filtep, next};
+use arith::{fit, wide};
 use idle::{Recursive, Scales};
 
 // PREDIC, from the output of the transversal part.
 pub(crate) fn predic(p: Recursive, sz: i32) -> i32
-    requires fit { Fit p }
-    requires sz_bound { mag sz < 2 ^ 15 }
+    requires { mag sz < 2 ^ 15 }
     ensures { (result ≡ add (filtep (poles_of p)) sz) × (mag result < 2 ^ 15) }
 {
     fit(filtep(p) + sz, -32768, 32767)
@@ -31,28 +31,22 @@ pub(crate) fn inverse(q: i16, scale: i32) -> i32
     (wide(q) * scale) >> 15
 }
 
-// A turn by its word, after the prediction s.
-pub(crate) fn turn(
-    high: bool,
-    ilb: &[u16; 32],
-    q: &[i16; 64],
-    w: &[i16; 16],
-    p: Recursive,
-    f: Scales,
-    sz: i32,
-    s: i32,
-    word: u8,
-) -> Turned
-    requires lent { Lent high ilb.now q.now w.now }
-    requires fit { Fit p }
-    requires held { Held f }
-    requires sz_bound { (mag sz < 2 ^ 15) × (mag s < 2 ^ 15) × (word < 64) }
-    ensures { (step_of result ≡ step_by high (poles_of p) (factors_of f) sz s word) × Sound result }
-{
-    let d = inverse(q[word as usize], f.scale);
-    Turned {
-        d: d as i16,
-        poles: next(p, d + sz, s + d),
-        factors: weighed(high, ilb, f, w[(word / 4) as usize]),
+impl Tables {
+    // A turn by its word, after the prediction s.
+    pub(crate) fn turn(&self, p: Recursive, f: Scales, sz: i32, s: i32, word: u8) -> Turned
+        requires { (mag sz < 2 ^ 15) × (mag s < 2 ^ 15) × (word < 64) }
+        ensures { step_of result ≡ step_by self.now.high (poles_of p) (factors_of f) sz s word }
+    {
+        let d = inverse(self.outputs[word as usize], f.scale);
+        Turned {
+            d: d as i16,
+            poles: next(p, d + sz, s + d),
+            factors: weighed(
+                self.high,
+                &self.powers,
+                f,
+                self.weights[(word / 4) as usize],
+            ),
+        }
     }
 }

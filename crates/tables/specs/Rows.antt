@@ -2,7 +2,7 @@
 -- Assumes nothing.
 use Rattle.std.specs.Prelude.{◌≡◌, Bool, ℕ, ◌+◌, ◌*◌, ◌/◌, ◌%◌, ◌^◌, ◌<◌, eqb, get_or}
 use Rattle.std.proofs.Common.{◌∙◌, ap, sym, mod-eq_of_lt, arith, eqb→eq}
-use Rattle.laws.specs.Every.{below, below_at}
+use Rattle.laws.specs.Every.{below_at}
 use Rattle.g722.specs.Tables.{ila, ilb}
 use Rattle.g722.specs.Checks.{ila_is_ilb}
 use Rattle.tables.specs.Entries.{ila_small}

@@ -22,61 +22,49 @@ const WL: [i16; 8] = [-60, -30, 58, 172, 334, 538, 1198, 3042];
 const WH: [i16; 3] = [0, -214, 798];
 
 // The output of the 6-bit inverse quantiser at an address.
+#[tactic(auto, unfolding(g722::specs::Tables::qq6))]
 pub fn qq6_at(k: u8) -> u16
     ensures { result ≡ get_or qq6 k 0 }
 {
-    if k < 31 {
-        return QQ6[k as usize];
-    }
-    0
+    QQ6.get(usize::from(k)).copied().unwrap_or(0)
 }
 
 // The output of the 5-bit inverse quantiser at an address.
+#[tactic(auto, unfolding(g722::specs::Tables::qq5))]
 pub fn qq5_at(k: u8) -> u16
     ensures { result ≡ get_or qq5 k 0 }
 {
-    if k < 16 {
-        return QQ5[k as usize];
-    }
-    0
+    QQ5.get(usize::from(k)).copied().unwrap_or(0)
 }
 
 // The output of the 4-bit inverse quantiser at an address.
+#[tactic(auto, unfolding(g722::specs::Tables::qq4))]
 pub fn qq4_at(k: u8) -> u16
     ensures { result ≡ get_or qq4 k 0 }
 {
-    if k < 8 {
-        return QQ4[k as usize];
-    }
-    0
+    QQ4.get(usize::from(k)).copied().unwrap_or(0)
 }
 
 // The output of the high band's inverse quantiser at an address.
+#[tactic(auto, unfolding(g722::specs::Tables::qq2))]
 pub fn qq2_at(k: u8) -> u16
     ensures { result ≡ get_or qq2 k 0 }
 {
-    if k < 3 {
-        return QQ2[k as usize];
-    }
-    0
+    QQ2.get(usize::from(k)).copied().unwrap_or(0)
 }
 
 // The weight of the low band at an address.
+#[tactic(auto, unfolding(g722::specs::Tables::wl))]
 pub fn wl_at(k: u8) -> i16
     ensures { result ≡ get_or wl k (pos 0) }
 {
-    if k < 8 {
-        return WL[k as usize];
-    }
-    0
+    WL.get(usize::from(k)).copied().unwrap_or(0)
 }
 
 // The weight of the high band at an address.
+#[tactic(auto, unfolding(g722::specs::Tables::wh))]
 pub fn wh_at(k: u8) -> i16
     ensures { result ≡ get_or wh k (pos 0) }
 {
-    if k < 3 {
-        return WH[k as usize];
-    }
-    0
+    WH.get(usize::from(k)).copied().unwrap_or(0)
 }

@@ -1,92 +1,77 @@
 // Walks a recording, lent as a whole, by the reader, and writes the lines of the listing. A recording of up to 128 blocks is read.
 #![tactic(auto)]
 
-ghost use Rattle.std.specs.Prelude.{◌≡◌, ◌≤◌, length};
-ghost use Rattle.reader.specs.Walk.{step_at, next_at};
+ghost use Rattle.std.specs.Prelude.{◌≡◌, ◌≤◌};
+ghost use Rattle.reader.specs.Walk.{walked, step_at, next_at};
 
+use block::Header;
+use g722::Refusal;
 use lines::Line;
-use playing::Player;
-use reader::{Reader, Step};
+use playing::{PlayedBlock, Player};
+use reader::{Found, Reader};
 use std::io;
-use std::io::{Eprint, Print, Read, Stdin};
+use std::io::{Eprint, Print, Read};
 
 // What the reader says at first.
-fn first(src: &[u8]) -> Step
-    ensures { result ≡ step_at src.now 0 }
+fn first(src: &[u8]) -> Found
+    ensures { walked result ≡ step_at src.now 0 }
 {
     reader::next(reader::new(src))
 }
 
 // What the reader says after it moved on from block number `at`.
-fn after(src: &[u8], at: usize) -> Step
-    ensures { result ≡ step_at src.now (next_at src.now at) }
+fn after(src: &[u8], at: usize) -> Found
+    ensures { walked result ≡ step_at src.now (next_at src.now at) }
 {
     reader::next(reader::moved_on(Reader { src, at }))
-}
-
-// Writes out the bytes from a place on.
-fn write_from(rt: &impl Print, bytes: &[u8], at: usize) -> io::Result<()>
-    requires { at ≤ length bytes.now }
-{
-    rt.write_all(&bytes[at..])
 }
 
 // Writes a line out.
 fn print(rt: &impl Print, line: Line) -> io::Result<()>
     requires { line.at ≤ 160 }
 {
-    let bytes = line.bytes;
-    write_from(rt, &bytes, line.at)
+    rt.write_all(&line.bytes[line.at..])
 }
 
-// The line of what the reader says of a block, with the samples at its ends and the count of the limited ones; or of a refusal after so
-// many others.
-fn line(s: Step, first: i16, last: i16, limited: u32, before: usize) -> Line
+// The line of what the reader says of a block, with what the player says of its samples; or of a refusal after so many others.
+#[tactic(auto, unfolding(lines::specs::Lines::line_of))]
+fn line(read: Result<Header, Refusal>, played: Result<PlayedBlock, Refusal>, before: usize) -> Line
     ensures { result.at ≤ 160 }
 {
-    let b = s.block;
-    let number = b.number;
-    if number != 0 {
-        return lines::refused_line(number, before as u64);
+    match (read, played) {
+        (Ok(h), Ok(b)) => {
+            lines::block_line(h.take, h.block, h.mode, h.count, b.first, b.last, b.limited)
+        }
+        (Err(refusal), _) | (Ok(_), Err(refusal)) => {
+            lines::refused_line(refusal.number(), before as u64)
+        }
     }
-    lines::block_line(b.take, b.block, b.mode, b.count, first, last, limited)
 }
 
-// What a block leaves: the player after it, and whether to walk on.
-#[derive(Clone, Copy)]
-struct Onward {
-    next: Player,
-    more: bool,
-}
-
-// Plays a whole block and prints the line of what the reader says of it.
+// Plays a whole block and prints the line of what the reader says of it. It answers the player after it, unless the block is refused.
 fn list(
     rt: &(impl Print + Eprint),
     p: Player,
-    s: Step,
+    read: Result<Header, Refusal>,
     before: usize,
     block: &[u8],
     samples: &mut [i16],
-) -> io::Result<Onward> {
+) -> io::Result<Option<Player>> {
     let played = player::play(p, block, samples);
-    let next = played.next;
-    print(
-        rt,
-        line(s, played.first, played.last, played.limited, before),
-    )?;
-    if played.number != 0 {
-        eprintln!(rt; "stopped at a block that is refused")?;
+    print(rt, line(read, played, before))?;
+    match played {
+        Ok(b) => Ok(Some(b.next)),
+        Err(_) => {
+            eprintln!(rt; "stopped at a block that is refused")?;
+            Ok(None)
+        }
     }
-    Ok(Onward {
-        next: next,
-        more: played.number == 0,
-    })
 }
 
-// Past the last whole block: the end, or a shorter piece.
-fn finish(rt: &(impl Print + Eprint), s: Step, before: usize) -> io::Result<()> {
-    if !s.end {
-        print(rt, line(s, 0, 0, 0, before))?;
+// Past the last whole block: the end, or a shorter piece, which is refused.
+fn finish(rt: &(impl Print + Eprint), found: Found, before: usize) -> io::Result<()> {
+    if let Some(read) = found.block {
+        print(rt, line(read, Err(Refusal::BlockSize), before))?;
         eprintln!(rt; "stopped at a block that is refused")?;
     }
     Ok(())
@@ -94,38 +79,35 @@ fn finish(rt: &(impl Print + Eprint), s: Step, before: usize) -> io::Result<()> 
 
 // Walks over the whole blocks and to the end.
 fn run(rt: &(impl Print + Eprint), src: &[u8]) -> io::Result<()> {
-    let mut samples = [0i16; 960];
+    let mut samples = [0; 960];
     let mut p = player::start();
-    let mut s = first(src);
-    let whole = src.len() / 512;
-    for at in 0..whole {
-        let from = 512 * at;
-        let t = list(rt, p, s, at, &src[from..from + 512], &mut samples)?;
-        if !t.more {
+    let mut found = first(src);
+    for (at, block) in src.chunks_exact(512).enumerate() {
+        let Some(read) = found.block else {
             return Ok(());
-        }
-        p = t.next;
-        s = after(src, at);
+        };
+        let Some(next) = list(rt, p, read, at, block, &mut samples)? else {
+            return Ok(());
+        };
+        p = next;
+        found = after(src, at);
     }
-    finish(rt, s, whole)
+    finish(rt, found, src.len() / 512)
 }
 
-// Reads until the bytes are full, the input ends or a read fails, and answers how many there are.
-fn read_full(input: &mut Stdin, bytes: &mut [u8]) -> usize
-    ensures { result ≤ length bytes.new }
-{
+// Reads until there is no more room, the input ends or a read fails, and answers what there is.
+fn read_full<'a>(input: &mut impl Read, room: &'a mut [u8]) -> &'a [u8] {
     let mut n = 0;
-    while n < bytes.len() {
-        match input.read(&mut bytes[n..]) {
+    while n < room.len() {
+        match input.read(&mut room[n..]) {
             Ok(more) if 0 < more => n += more,
             _ => break,
         }
     }
-    n
+    &room[..n]
 }
 
 fn main(rt: HostRuntime) -> io::Result<()> {
-    let mut bytes = [0u8; 65536];
-    let n = read_full(&mut rt.stdin(), &mut bytes);
-    run(&rt, &bytes[..n])
+    let mut room = [0; 65536];
+    run(&rt, read_full(&mut rt.stdin(), &mut room))
 }

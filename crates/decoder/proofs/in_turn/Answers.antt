@@ -3,10 +3,8 @@ use mathlib.Core.Path.{sym, ap, ◌∙◌}
 use mathlib.Core.List.{List}
 use lib.IntN.{ℤ}
 use native.Mathlib.Omega.{arith}
-use borrow.Author.Rules.{rules}
 use Rattle.facts.specs.Steps.{full_in_steps, samples_in_steps, record_in_steps}
 use Rattle.facts.specs.Signals.{rls_in_range, rhs_in_range}
-use Rattle.facts.specs.Blocks.{heard_next_good}
 use Rattle.g722.specs.Records.{all_in_range}
 use Rattle.g722.specs.Arithmetic.{overloads}
 use Rattle.g722.specs.Decoding.{decoded}
@@ -19,8 +17,8 @@ returns c =
     let a = c.args in
     let octets = a.octets.now in
     let did = c.hear_block-heard.ensures in
-    let full = sym (full_in_steps a.mode a.d octets) in
-    let next = sym (record_in_steps a.mode a.d octets) in
+    let full = sym (full_in_steps a.mode a.d.decoder octets) in
+    let next = sym (record_in_steps a.mode a.d.decoder octets) in
     record {
       answer =
           c.join_block.ensures.answer
@@ -29,7 +27,7 @@ returns c =
       left =
           c.join_block.ensures.left
           ∙ (λ i. joined_of (did.answer i).next.past (did.left i).0 (did.left i).1)
-          ∙ sym (samples_in_steps a.mode a.d octets);
+          ∙ sym (samples_in_steps a.mode a.d.decoder octets);
     }
 
 -- what was heard is what joining asks for
@@ -45,7 +43,6 @@ join_block-requires c =
       low_len_bound = omega (arith, low, c.requires);
       high_len = omega (arith, low, high, c.requires);
       samples_len = omega (arith, low, c.requires);
-      d_value = heard_next_good a.mode a.d octets did c.requires.d_value;
-      low_value = ap (λ (x : List ℤ × List ℤ). all_in_range x.0) did.left ∙ rls_in_range a.mode a.d.low octets;
-      high_value = ap (λ (x : List ℤ × List ℤ). all_in_range x.1) did.left ∙ rhs_in_range a.d.high octets;
+      low_value = ap (λ (x : List ℤ × List ℤ). all_in_range x.0) did.left ∙ rls_in_range a.mode a.d.decoder.low octets;
+      high_value = ap (λ (x : List ℤ × List ℤ). all_in_range x.1) did.left ∙ rhs_in_range a.d.decoder.high octets;
     }

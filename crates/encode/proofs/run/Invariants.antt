@@ -3,4 +3,4 @@ use Rattle.encode.proofs.run.Given as goal
 
 -- each turn moves the index by at most 16000
 abbrev pub invariant-loop : goal.invariant-loop
-invariant-loop l = l.start ≤ 16000 * l.counter
+invariant-loop g l = l.at.sample ≤ 16000 * l.counter

@@ -1,4 +1,4 @@
--- `lines::overload_line` meets its contract.
+-- `overload_line` meets its contract.
 use Rattle.lines.specs.Text.{ascii}
 use Rattle.lines.specs.Lines.{overload_line}
 use Rattle.lines.proofs.Laws.{both, finished}

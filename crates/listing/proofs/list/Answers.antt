@@ -5,4 +5,4 @@ use Rattle.listing.proofs.list.Goals as goal
 
 pub print-requires : goal.print-requires
 unfolding line_of
-print-requires c = rw c.listed.ensures (omega arith)
+print-requires g c = rw c.listed.ensures (omega arith)

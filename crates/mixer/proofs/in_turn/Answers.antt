@@ -11,19 +11,17 @@ pub returns : goal.returns
 unfolding ticked tick_limited desk_after octets_to signals_to
 returns c =
     let desk = c.args.desk in
-    let heard = c.hear_all-heard.ensures in
+    let heard = c.hear_all-decoders.ensures in
     let sent = c.send_all-sent.ensures in
     let signals = ap (λ (l : List ℤ × List ℤ). zip (mixed l.0) (mixed l.1)) heard.left in
     let coders = (λ j. (sent.answer j).coders) ∙ ap (each_port coder_to desk.coders) signals in
     let count = (λ j. (sent.answer j).limited) ∙ ap (λ (l : List ℤ × List ℤ). sums_limited l.0 l.1) heard.left in
     record {
-      answer =
-          c.answer.ensures
-          ∙ λ i. record {
-            number = 0;
-            index = 0;
-            limited = count i;
-            next = record { ports = desk.ports; coders = coders i; decoders = heard.answer i };
-          };
+      answer = λ i. record {
+        number = 0;
+        index = 0;
+        limited = count i;
+        next = record { ports = desk.ports; coders = coders i; decoders = heard.answer i };
+      };
       left = sent.left ∙ ap (zip_with octet_to desk.coders) signals;
     }

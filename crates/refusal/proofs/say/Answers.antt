@@ -1,7 +1,8 @@
 use Rattle.std.proofs.Common.{arith}
-use Rattle.refusal.proofs.Laws.{within}
+use Rattle.lines.specs.Lines.{line_of}
 use Rattle.refusal.proofs.say.Goals as goal
 
 -- the line starts within the bytes
-pub write_from-requires : goal.write_from-requires
-write_from-requires c = omega (arith, within _ _ c.refused_line-line.ensures)
+pub write_line-requires : goal.write_line-requires
+unfolding line_of
+write_line-requires c = rw c.refused_line.ensures (omega arith)

@@ -1,8 +1,5 @@
-use Rattle.std.proofs.Common.{◌-◌, ◌≤◌, length}
+use Rattle.std.proofs.Common.{◌≤◌}
 use Rattle.desk.proofs.files.read_all.Given as goal
 
-abbrev pub invariant-loop-i : goal.invariant-loop-i
-invariant-loop-i l = (l.i ≤ length l.files) × (l.least ≤ 1000)
-
-abbrev pub decreases-loop-i : goal.decreases-loop-i
-decreases-loop-i l = length l.files - l.i
+abbrev pub invariant-loop-port : goal.invariant-loop-port
+invariant-loop-port l = l.columns.least ≤ 1000

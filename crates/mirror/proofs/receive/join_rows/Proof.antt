@@ -77,7 +77,7 @@ join_rows_spec =
     (λ c κs. tt)
     (λ c. omega arith)
     (λ c. omega arith)
-    (λ c. omega (arith, (loop c.before.before).loop-i.invariant.1.long))
+    (λ c. omega (arith, (loop c.before).loop-i.invariant.1.long))
     (λ c. omega arith)
     (λ c. omega arith)
     (λ c. omega arith)

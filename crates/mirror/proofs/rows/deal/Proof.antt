@@ -27,7 +27,7 @@ loop-again : tie.Need-loop-i-preserved invariant-loop decreases-loop invariant-l
 loop-again c =
     let l = c.before.before in
     let s = l.before.args in
-    let e = in_front_lem s.past.now s.samples.now (2 * l.loop-i.i + s.phase) (omega arith) (back16 _ c.v-1.given) in
+    let e = in_front_lem s.past.now s.samples.now (2 * l.loop-i.i + s.phase) (omega arith) (back16 _ c.row-1.given) in
     (omega arith, held_more l.loop-i.invariant.1 (omega arith) (omega arith) e)
 
 loop2-holds : tie.Need-loop-i-2-init invariant-loop decreases-loop invariant-loop2 decreases-loop2
@@ -40,7 +40,7 @@ loop2-again c =
       omega arith,
       refl,
       held_more l.loop-i-2.invariant.2 (omega arith) (omega arith)
-          (behind s.past.now s.samples.now (2 * l.loop-i-2.i + s.phase) (omega arith) (back16 _ c.v-in-loop-i-2-1.given)),
+          (behind s.past.now s.samples.now (2 * l.loop-i-2.i + s.phase) (omega arith) (back16 _ c.row-in-loop-i-2-1.given)),
     )
 
 returns : tie.Need-returns invariant-loop decreases-loop invariant-loop2 decreases-loop2

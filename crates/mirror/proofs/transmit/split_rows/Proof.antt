@@ -108,7 +108,7 @@ split_rows_spec =
     (λ c. less_fits (a c.before) (b c.before) (omega arith))
     (λ c κs. tt)
     (λ c. omega arith)
-    (λ c. omega (arith, (loop c.before.before.before.before).loop-i.invariant.2.long))
+    (λ c. omega (arith, (loop c.before.before.before).loop-i.invariant.2.long))
     (λ c. omega arith)
     (λ c. omega (arith, (loop c.before.before.before.before).loop-i.invariant.3.long))
     (λ c κs. tt)

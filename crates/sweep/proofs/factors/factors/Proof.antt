@@ -15,8 +15,8 @@ returns c =
     let g = d.before.struct_told-1.given in
     let f = s.args.f in
     λ j. record {
-      log = (back16 d.clamp.result d.clamp.type_inv ∙ d.clamp.ensures ∙ ap stop (back32 f.log g.0.1) ∙ stop16 f.log s.requires.log) j;
-      scale = (back16 c.clamp-2.result c.clamp-2.type_inv ∙ c.clamp-2.ensures ∙ ap stop (back32 f.scale g.1.0.1) ∙ stop16 f.scale s.requires.scale) j;
+      log = (back16 d.clamp.result d.clamp.type_inv ∙ d.clamp.ensures ∙ ap stop (back32 f.log g.0.1) ∙ stop16 f.log s.args.f.log_bound) j;
+      scale = (back16 c.clamp-2.result c.clamp-2.type_inv ∙ c.clamp-2.ensures ∙ ap stop (back32 f.scale g.1.0.1) ∙ stop16 f.scale s.args.f.scale_bound) j;
     }
 
 pub factors_spec : {M : Type 1} → statement M

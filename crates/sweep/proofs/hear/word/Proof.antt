@@ -4,7 +4,7 @@ use mathlib.Core.Bool.{Bool, true, false, cond}
 use Prim.Native.Nat.{ℕ, ◌^◌, ◌/◌, ◌%◌, ◌<◌}
 use native.Mathlib.Nat.{mod-lt}
 use native.Mathlib.Omega.{arith}
-use Rattle.sweep.specs.Turn.{word_in}
+use Rattle.sweep.specs.Octet.{word_in}
 use Rattle.sweep.proofs.hear.word.Statement.{statement}
 use Rattle.sweep.proofs.hear.word.Tie as tie
 

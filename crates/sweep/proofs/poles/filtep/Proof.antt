@@ -8,7 +8,7 @@ use mir.Val.{to_z, of_z}
 use mir.Facts.{to_z-of_z}
 use Rattle.laws.specs.Back.{back32}
 use Rattle.laws.specs.Size.{fits_abs, abs_add}
-use Rattle.idle.specs.Recursive.{stop_abs, filtep_is}
+use Rattle.idle.specs.Recursive.{stop_abs, filtep_is, fit_of}
 use Rattle.sweep.proofs.poles.filtep.Statement.{statement}
 use Rattle.sweep.proofs.poles.filtep.Tie as tie
 
@@ -29,20 +29,20 @@ module _ (c : tie.After-struct_told-1) where
 scaled-requires : tie.Need-scaled-requires
 scaled-requires c κs =
     let d = c.before in
-    let f = d.before.requires in
+    let f = fit_of d.before.args.w in
     (rw (a1 d) (omega (arith, f.a1)), rw (t1 d, f.t1) (stop_abs _))
 
 scaled-requires-2 : tie.Need-scaled-requires-2
 scaled-requires-2 c κs =
     let d = c.before.before.before.before in
-    let f = d.before.requires in
+    let f = fit_of d.before.args.w in
     (rw (a2 d) (omega (arith, f.a2)), rw (t2 d, f.t2) (stop_abs _))
 
 add_fit : tie.Need-overflow_add-scaled
 add_fit c =
     let m = c.before.before.before in
     let d = m.before.before in
-    let f = d.before.requires in
+    let f = fit_of d.before.args.w in
     let h : nat_abs m.scaled.result ≤ nat_abs d.before.args.w.a1 = rw (a1 d) at m.scaled.ensures.1 in
     let k : nat_abs c.scaled-2.result ≤ nat_abs d.before.args.w.a2 = rw (a2 d) at c.scaled-2.ensures.1 in
     rw (back32 m.scaled.result m.scaled.type_inv, back32 c.scaled-2.result c.scaled-2.type_inv) (fits_abs (omega (arith, abs_add m.scaled.result c.scaled-2.result, f.a1, f.a2)))
@@ -63,7 +63,7 @@ returns c =
         a2 d,
         t2 d,
       )
-          (filtep_is s.args.w s.requires),
+          (filtep_is s.args.w (fit_of s.args.w)),
       rw (back32 c.fit.result c.fit.type_inv ∙ c.fit.ensures) (stop_abs _),
     )
 

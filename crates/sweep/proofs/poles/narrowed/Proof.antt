@@ -3,7 +3,7 @@ use mathlib.Core.Path.{ap, ◌∙◌}
 use native.Mathlib.Omega.{arith}
 use Rattle.laws.specs.Back.{back32, back16}
 use Rattle.g722.specs.Arithmetic.{stop}
-use Rattle.idle.specs.Recursive.{poles_of, stop_id}
+use Rattle.idle.specs.Recursive.{poles_of, stop_id, fit_of}
 use Rattle.sweep.proofs.poles.narrowed.Statement.{statement}
 use Rattle.sweep.proofs.poles.narrowed.Tie as tie
 
@@ -19,7 +19,7 @@ returns c =
     let s = t.before in
     let w = s.args.w in
     let g = t.struct_told-1.given in
-    let f = s.requires in
+    let f = fit_of s.args.w in
     λ j. record {
       a1 = (back16 c1.clamp.result c1.clamp.type_inv ∙ c1.clamp.ensures ∙ ap stop (back32 w.a1 g.0.1) ∙ stop_id w.a1 (omega (arith, f.a1))) j;
       a2 = (back16 c2.clamp-2.result c2.clamp-2.type_inv ∙ c2.clamp-2.ensures ∙ ap stop (back32 w.a2 g.1.0.1) ∙ stop_id w.a2 (omega (arith, f.a2))) j;

@@ -20,7 +20,7 @@ add_fit : tie.Need-overflow_add-filtep
 add_fit c =
     let s = c.before in
     rw (back32 c.filtep.result c.filtep.type_inv, to_z-of_z s.ranges.sz)
-    (fits_abs (omega (arith, abs_add c.filtep.result s.args.sz, c.filtep.ensures.1, abs_mag s.args.sz, s.requires.1)))
+    (fits_abs (omega (arith, abs_add c.filtep.result s.args.sz, c.filtep.ensures.1, abs_mag s.args.sz, s.requires)))
 
 returns : tie.Need-returns
 unfolding add
@@ -32,4 +32,4 @@ returns c =
     )
 
 pub predic_spec : {M : Type 1} → statement M
-predic_spec = tie.close (tie.spec (λ c κs. c.requires.0) add_fit (λ c κs. tt) returns)
+predic_spec = tie.close (tie.spec (λ c κs. tt) add_fit (λ c κs. tt) returns)

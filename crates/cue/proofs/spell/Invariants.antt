@@ -1,0 +1,10 @@
+-- The bits to come give, after the value so far, what all of them spell.
+use Rattle.std.proofs.Common.{◌≡◌, ◌+◌, ◌^◌, ◌<◌, take, drop, ◌-◌}
+use Rattle.g722.specs.Cue.{bits_of, spelt}
+use Rattle.cue.proofs.spell.Given as goal
+
+abbrev pub invariant-loop-i : goal.invariant-loop-i
+invariant-loop-i l =
+    let f = l.fn in
+    (l.value < 2 ^ l.i)
+    × (spelt l.value (take (f.w - l.i) (drop (f.n + l.i) (bits_of f.k f.xs))) ≡ spelt 0 (take f.w (drop f.n (bits_of f.k f.xs))))
