@@ -100,5 +100,5 @@ pub fn same_sign(a: i16, b: i16) -> bool
 pub fn within(lo: i16, hi: i16, x: i16) -> bool
     ensures { result ≡ within lo hi x }
 {
-    lo <= x && x <= hi
+    (lo..=hi).contains(&x)
 }

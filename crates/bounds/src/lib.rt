@@ -4,10 +4,11 @@
 ghost use Rattle.std.specs.Prelude.{◌≡◌};
 ghost use Rattle.g722.specs.Coding.{misfit, first_bad};
 ghost use Rattle.g722.specs.Records.{in_range, all_in_range, good_poles, good_factors, good_low, good_high, reset_band};
+ghost use Rattle.quant.specs.Own.{scale_of};
 
 use arith::{sub, within};
 use g722::{Band, Factors, Poles, Zeros};
-use quant::{scaleh, scalel};
+use quant::{High, Low, SubBand};
 
 // Whether lent lengths do not fit: 2n samples to n octets, n at most 8000.
 #[tactic(auto, using(std::proofs::lemmas::Bool::Decides::nat_tests), unfolding(g722::specs::Coding::misfit))]
@@ -24,25 +25,18 @@ pub fn in_range(x: i16) -> bool
     within(-16384, 16383, x)
 }
 
-// The same of a number that stands in a slice.
-fn lies(x: &i16) -> bool
-    ensures { result ≡ in_range x.now }
-{
-    in_range(*x)
-}
-
 // Whether all do, by one pass without a branch.
 pub fn all_in_range(xs: &[i16]) -> bool
     ensures { result ≡ all_in_range xs.now }
 {
-    xs.iter().fold(true, |ok, x| ok & lies(x))
+    xs.iter().fold(true, |ok, x| ok & in_range(*x))
 }
 
 // The index of the first out of range, or the length where there is none.
 pub fn first_bad(xs: &[i16]) -> usize
     ensures { result ≡ first_bad xs.now }
 {
-    xs.iter().position(|x| !lies(x)).unwrap_or(xs.len())
+    xs.iter().position(|x| !in_range(*x)).unwrap_or(xs.len())
 }
 
 // Whether both pole coefficients lie within their bounds.
@@ -54,24 +48,26 @@ pub fn good_poles(s: Poles) -> bool
 }
 
 // Whether a log factor lies within its limits, and the scale factor beside it is the one that belongs to it.
-fn good_factors(top: i16, scale: i16, f: Factors) -> bool
-    ensures { result ≡ good_factors top (λ log. scale) f }
+fn good_factors<B: SubBand>(f: Factors) -> bool
+    ensures { result ≡ good_factors B.own.top (scale_of B.own) f }
 {
-    within(0, top, f.log) && f.scale == scale
+    within(0, B::TOP, f.log) && f.scale == B::scale(f.log)
 }
 
 // Whether a low band keeps its bounds.
+#[tactic(auto, using(quant::specs::Own::low_scale), unfolding(g722::specs::Records::good_low))]
 pub fn good_low(s: Band) -> bool
     ensures { result ≡ good_low s }
 {
-    good_poles(s.poles) && good_factors(18432, scalel(s.factors.log), s.factors)
+    good_poles(s.poles) && good_factors::<Low>(s.factors)
 }
 
 // Whether a high band does.
+#[tactic(auto, using(quant::specs::Own::high_scale), unfolding(g722::specs::Records::good_high))]
 pub fn good_high(s: Band) -> bool
     ensures { result ≡ good_high s }
 {
-    good_poles(s.poles) && good_factors(22528, scaleh(s.factors.log), s.factors)
+    good_poles(s.poles) && good_factors::<High>(s.factors)
 }
 
 // A band at reset, with its least scale factor.

@@ -60,7 +60,7 @@ fn modes(env: &impl Env, ports: u8) -> Result<ArrayVec<u8, 8>, Misuse>
 {
     let mut modes = ArrayVec::new();
     for i in 0..ports {
-        let mode = told(env, 2 + i as usize)?;
+        let mode = told(env, 2 + usize::from(i))?;
         if 3 < mode {
             return Err(Misuse::Refused(Refusal::Mode));
         }
@@ -84,7 +84,7 @@ fn has_last_word(env: &impl Env, i: usize) -> bool
 // Runs the form that the number of words tells.
 fn run(rt: &HostRuntime) -> Result<(), Misuse> {
     let desk = desk(rt)?;
-    let ports = desk.ports as usize;
+    let ports = usize::from(desk.ports);
     let by_files = has_last_word(rt, 1 + 3 * ports);
     if !by_files && !has_last_word(rt, 1 + ports) {
         return Err(Misuse::Unfit);

@@ -76,7 +76,7 @@ pub struct Limited {
 }
 
 // Why a call is refused: the numbers of SCOPE 7. A sample or signal out of range has a place, which is its index (SCOPE 11).
-#[derive(Clone, Copy, PartialEq, Eq)]
+#[derive(Clone, Copy)]
 pub enum Refusal {
     Mode,
     Record,

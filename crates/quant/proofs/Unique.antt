@@ -10,12 +10,6 @@ quantl = equation (λ κs a l m. refl) (λ M. quant.quantl.Met.met)
 pub quanth : LeavesOne contracts.quanth.ended (λ M 𝓤. contracts.quanth.clauses) quant.quanth.Symbol.name quant.quanth.Symbol.code
 quanth = equation (λ κs a l m. refl) (λ M. quant.quanth.Met.met)
 
-pub scalel : LeavesOne contracts.scalel.ended (λ M 𝓤. contracts.scalel.clauses) quant.scalel.Symbol.name quant.scalel.Symbol.code
-scalel = equation (λ κs a l m. refl) (λ M. quant.scalel.Met.met)
-
-pub scaleh : LeavesOne contracts.scaleh.ended (λ M 𝓤. contracts.scaleh.clauses) quant.scaleh.Symbol.name quant.scaleh.Symbol.code
-scaleh = equation (λ κs a l m. refl) (λ M. quant.scaleh.Met.met)
-
 pub in_force : LeavesOne contracts.in_force.ended (λ M 𝓤. contracts.in_force.clauses) quant.in_force.Symbol.name quant.in_force.Symbol.code
 in_force = equation (λ κs a l m. refl) (λ M. quant.in_force.Met.met)
 

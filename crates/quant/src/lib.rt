@@ -10,7 +10,7 @@ ghost use Rattle.std.specs.Int.Signed.{mag};
 ghost use Rattle.g722.specs.Arithmetic.{mul};
 
 pub use inverse::{in_force, invqbl};
-pub use sub_band::{High, Low, SubBand, quanth, quantl, scaleh, scalel};
+pub use sub_band::{High, Low, SubBand, quanth, quantl};
 
 // The product shifted right by 15, where no stop can come in: a is at most 32766 in size.
 fn product(a: i16, b: i16) -> i32

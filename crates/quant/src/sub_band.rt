@@ -1,6 +1,6 @@
 // The two sub-bands: the blocks that both have, each said once, and what of them is each band's own.
 ghost use Rattle.std.specs.Prelude.{◌≡◌, refl, ◌+◌, ◌≤◌, map, ℕ, ℤ, pos, get_or};
-ghost use Rattle.g722.specs.Quantise.{level, at_or_below, quantl, quanth, scalel, scaleh};
+ghost use Rattle.g722.specs.Quantise.{level, at_or_below, quantl, quanth};
 ghost use Rattle.quant.specs.Own.{Own, low_own, high_own, word_of, difference_of, log_of, scale_of, factors_of};
 ghost use Rattle.tables.specs.Entries.{qq4_small, qq2_small};
 
@@ -78,7 +78,7 @@ pub trait SubBand {
     fn scale(log: i16) -> i16
         ensures { result ≡ scale_of own log }
     {
-        scale_at(size(log) as usize / 64 + Self::FIRST as usize)
+        scale_at(usize::from(size(log)) / 64 + usize::from(Self::FIRST))
     }
 
     // Both factors after a word.
@@ -196,20 +196,4 @@ pub fn quanth(eh: i16, deth: i16) -> u8
     ensures { result ≡ quanth eh deth }
 {
     High::quant(eh, deth)
-}
-
-// SCALEL: the scale factor of the low band from its log factor.
-#[tactic(auto, using(crate::specs::Own::low_scale))]
-pub fn scalel(nbpl: i16) -> i16
-    ensures { result ≡ scalel nbpl }
-{
-    Low::scale(nbpl)
-}
-
-// SCALEH: the scale factor of the high band.
-#[tactic(auto, using(crate::specs::Own::high_scale))]
-pub fn scaleh(nbph: i16) -> i16
-    ensures { result ≡ scaleh nbph }
-{
-    High::scale(nbph)
 }
