@@ -116,14 +116,11 @@ const ILB: [u16; 32] = [
 pub fn outputs(high: bool, mode: u8) -> [i16; 64]
     ensures { result ≡ outputs_of high mode }
 {
-    if high {
-        TWO
-    } else if mode == 1 {
-        SIX
-    } else if mode == 2 {
-        FIVE
-    } else {
-        FOUR
+    match (high, mode) {
+        (true, _) => TWO,
+        (false, 1) => SIX,
+        (false, 2) => FIVE,
+        (false, _) => FOUR,
     }
 }
 

@@ -5,20 +5,21 @@ use Rattle.g722.specs.Words.{from_six, from_five, from_four, from_two}
 use Rattle.at_hand.specs.Signed.{signed_of, output_at, outputs_of}
 use Rattle.at_hand.proofs.outputs.Goals as goal
 
-pub returns-then-high : goal.returns-then-high
+pub returns-in-true-default : goal.returns-in-true-default
 unfolding outputs_of output_at signed_of from_two qq2
-returns-then-high c = rw c.if-high.true refl
+returns-in-true-default c = rw c.in-true-default.is-0 refl
 
-pub returns-then-mode-eq1 : goal.returns-then-mode-eq1
+pub returns-in-false-eq1 : goal.returns-in-false-eq1
 unfolding outputs_of output_at signed_of from_six qq6
-returns-then-mode-eq1 c = rw (c.if-high.false, c.if-mode-eq1.true) refl
+returns-in-false-eq1 c = let is = c.in-false-eq1 in rw (is.is-0, is.is-1) refl
 
-pub returns-then-mode-eq2 : goal.returns-then-mode-eq2
+pub returns-in-false-eq2 : goal.returns-in-false-eq2
 unfolding outputs_of output_at signed_of from_five qq5
-returns-then-mode-eq2 c = rw (c.if-high.false, c.if-mode-eq2.true) refl
+returns-in-false-eq2 c = let is = c.in-false-eq2 in rw (is.is-0, is.is-1) refl
 
-pub returns-else-mode-eq2 : goal.returns-else-mode-eq2
+pub returns-in-false-default : goal.returns-in-false-default
 unfolding outputs_of output_at signed_of from_four qq4
-returns-else-mode-eq2 c =
+returns-in-false-default c =
+    let is = c.in-false-default in
     let mode = c.args.mode in
-    rw (c.if-high.false, ne_eqb mode 1 c.if-mode-eq1.false, ne_eqb mode 2 c.if-mode-eq2.false) refl
+    rw (is.is-0, ne_eqb mode 1 is.is-1.0.1, ne_eqb mode 2 is.is-1.1) refl

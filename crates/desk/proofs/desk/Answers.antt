@@ -1,7 +1,12 @@
-use Rattle.std.proofs.Common.{◌≡◌, ℕ, ◌<◌, ◌≤◌, false, arith, sym, ap, ◌∙◌}
+-- `desk::desk` meets its contract: a desk that is not refused has 2 to 8 ports.
+use Rattle.std.proofs.Common.{◌≡◌, ℕ, ◌<◌, ◌≤◌, false, arith, sym, ap, ◌∙◌, Ok, Err}
+use Rattle.std.specs.Result.{IfOk, IsErrAnd, MatchResult}
+use Rattle.std.specs.declared.result.Result.{Result}
 use mathlib.Core.Bool.{cond}
 use Rattle.laws.specs.Order.{by_test}
-use Rattle.conference.specs.Answers.{Ticked}
+use Rattle.g722.specs.declared.Refusal.{Refusal}
+use Rattle.conference.specs.declared.Desk.{Desk}
+use Rattle.conference.specs.Answers.{Ticked, reset_as}
 use Rattle.conference.specs.Tick.{unseated, reset_call, reset_desk}
 use Rattle.conference.proofs.Cases.{seated}
 use Rattle.desk.proofs.desk.Goals as goal
@@ -16,7 +21,15 @@ seats : (n : ℕ) → (reset_call n).number ≡ 0 → (0 < (reset_call n).next.p
 unfolding reset_call reset_desk
 seats n e = let s = seated n (not-refused n e) in (omega (arith, s.0), s.1)
 
-pub returns-in-Ok : goal.returns-in-Ok
-returns-in-Ok g c =
-    let e = c.in-Ok.ensures in
-    rw (ap (λ (a : Ticked). a.next.ports) e) (seats c.in_ok-ports.ports (sym (ap (λ (a : Ticked). a.number) e)))
+-- and so has the one that is handed on, whatever is made of a refusal
+handed : {E : Type 0} (Q : Refusal → E → Type 0) (n : ℕ) (r : Result Desk Refusal) (m : Result Desk E)
+    → reset_as (reset_desk n) r ≡ reset_call n → MatchResult r (λ desk. m ≡ Ok desk) (λ refusal. IsErrAnd m (Q refusal))
+    → IfOk m (λ desk. (0 < desk.ports) × (desk.ports ≤ 8))
+handed Q n (Ok desk) m e h =
+    let s = seats n (sym (ap (λ (a : Ticked). a.number) e)) in
+    rw (h, ap (λ (a : Ticked). a.next.ports) e) s
+handed Q n (Err refusal) (Err x) e h = tt
+handed Q n (Err refusal) (Ok _) e h = elim h [ ]
+
+pub returns : goal.returns
+returns g c = handed _ c.in_ok-told.field-0 c.reset.result c.map_err.result c.reset.ensures c.map_err.ensures.cases
