@@ -6,7 +6,7 @@ ghost use mathlib.Core.List.{zip_with};
 ghost use Rattle.g722.specs.Band.{slide, term, filtez, filtep, gain, upzero, four, turned, uppol2, uppol1, next_zeros, next_poles};
 ghost use Rattle.band.specs.Loop.{estimated, adapted};
 
-use arith::{add, clamp, mul, same_sign, sub, wide};
+use arith::{add, clamp, mul, same_sign, sub};
 use g722::{Band, Factors, Poles, Zeros};
 use std::array;
 
@@ -98,7 +98,7 @@ pub fn uppol1(s: Poles, apl2: i16, p: i16) -> i16
     let step = if same_sign(p, s.p1) { 192 } else { -192 };
     let sum = add(step, mul(s.a1, 32640));
     let reach = sub(15360, apl2);
-    clamp(wide(sum), sub(0, reach), reach)
+    clamp(i32::from(sum), sub(0, reach), reach)
 }
 
 // The next six coefficients.

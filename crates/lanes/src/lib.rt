@@ -10,7 +10,7 @@ ghost use Rattle.g722.specs.Band.{upzero};
 ghost use Rattle.idle.specs.Plain.{raw, signed_gain};
 ghost use Rattle.lanes.specs.Sum.{plain_of};
 
-use arith::{add, mul, wide};
+use arith::{add, mul};
 use std::array;
 
 // A plain sum of terms, and whether it is what the chain of stopping sums gives: neither its positive nor its negative terms,
@@ -25,7 +25,7 @@ pub struct PlainSum {
 fn raw(b: i16, d: i16) -> i32
     ensures { (result ≡ raw b d) × (nat_abs result ≤ 32768) }
 {
-    (wide(b) * wide(add(d, d))) >> 15
+    (i32::from(b) * i32::from(add(d, d))) >> 15
 }
 
 // x where it is above 0, else 0.
