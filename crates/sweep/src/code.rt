@@ -4,7 +4,7 @@ ghost use Rattle.laws.specs.Outcome.{Does};
 ghost use Rattle.g722.specs.Quantise.{quantl, quanth};
 ghost use Rattle.sweep.specs.Block.{word_of, coded_next, coded_block};
 
-use crate::lent::Tables;
+use crate::lookup::Tables;
 use crate::run::{End, run};
 use crate::turn::predic;
 use crate::{Turned, takes};

@@ -4,7 +4,7 @@ ghost use Rattle.g722.specs.Tables.{ilb};
 ghost use Rattle.g722.specs.Quantise.{scale_at};
 ghost use Rattle.idle.specs.Factors.{factors_of, top, weighed};
 
-use arith::{clamp, fit, wide};
+use arith::{clamp, fit};
 use g722::Factors;
 use idle::Scales;
 
@@ -13,8 +13,8 @@ pub(crate) fn scales(f: Factors) -> Scales
     ensures { factors_of result ≡ f }
 {
     Scales {
-        log: wide(f.log),
-        scale: wide(f.scale),
+        log: i32::from(f.log),
+        scale: i32::from(f.scale),
     }
 }
 
@@ -56,7 +56,7 @@ pub(crate) fn weighed(high: bool, table: &[u16; 32], f: Scales, w: i16) -> Scale
     requires { table.now ≡ ilb }
     ensures { factors_of result ≡ weighed high w (factors_of f) }
 {
-    let log = fit(((f.log * 32512) >> 15) + wide(w), 0, top(high));
+    let log = fit(((f.log * 32512) >> 15) + i32::from(w), 0, top(high));
     let k = log as u32 / 64 + first(high);
     Scales {
         log,

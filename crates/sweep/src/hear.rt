@@ -5,7 +5,7 @@ ghost use Rattle.at_hand.specs.Signed.{outputs_of};
 ghost use Rattle.sweep.specs.Block.{signal_of, heard_next, heard_block};
 ghost use Rattle.sweep.specs.Octet.{word_in};
 
-use crate::lent::Tables;
+use crate::lookup::Tables;
 use crate::run::{End, run};
 use crate::turn::{inverse, predic};
 use crate::{Turned, takes};

@@ -4,7 +4,7 @@
 mod code;
 mod factors;
 mod hear;
-mod lent;
+mod lookup;
 mod poles;
 mod rows;
 mod run;

@@ -5,7 +5,7 @@ ghost use Rattle.g722.specs.Arithmetic.{neg, stop};
 ghost use Rattle.g722.specs.Band.{filtep, next_poles};
 ghost use Rattle.idle.specs.Recursive.{poles_of, turned_by, second_of, first_of};
 
-use arith::{clamp, fit, same, wide};
+use arith::{clamp, fit, same};
 use g722::Poles;
 use idle::Recursive;
 
@@ -101,14 +101,14 @@ pub(crate) fn widened(s: Poles) -> Recursive
     ensures { poles_of result ≡ s }
 {
     Recursive {
-        a1: wide(s.a1),
-        a2: wide(s.a2),
-        r1: wide(s.r1),
-        r2: wide(s.r2),
-        t1: twice(wide(s.r1)),
-        t2: twice(wide(s.r2)),
-        p1: wide(s.p1),
-        p2: wide(s.p2),
+        a1: i32::from(s.a1),
+        a2: i32::from(s.a2),
+        r1: i32::from(s.r1),
+        r2: i32::from(s.r2),
+        t1: twice(i32::from(s.r1)),
+        t2: twice(i32::from(s.r2)),
+        p1: i32::from(s.p1),
+        p2: i32::from(s.p2),
     }
 }
 

@@ -5,7 +5,7 @@ ghost use Rattle.g722.specs.Band.{filtez, next_zeros};
 ghost use Rattle.g722.specs.declared.Zeros.{Zeros};
 ghost use Rattle.idle.specs.Rows.{zeros_at, Quiet};
 
-use arith::{add, mul, wide};
+use band::filtez;
 use g722::Zeros;
 use lanes::{adapt, plain};
 use std::marker::Model;
@@ -45,18 +45,6 @@ fn begin(history: &mut [i16], d: [i16; 6])
     history[..6].copy_from_slice(&d);
     history[6] = 0;
     history[7] = 0;
-}
-
-// FILTEZ with every stop.
-#[inline(never)]
-fn chain(z: Zeros) -> i16
-    ensures { result ≡ filtez z }
-{
-    let mut sum: i16 = 0;
-    for k in 0..6 {
-        sum = add(sum, mul(z.b[k], add(z.d[k], z.d[k])));
-    }
-    sum
 }
 
 // The coefficients stand from o on, the differences from i on. The two lanes behind the six differences are 0. What follows them may be
@@ -112,7 +100,7 @@ impl Rows {
         if p.whole {
             p.sum
         } else {
-            wide(chain(self.zeros()))
+            i32::from(filtez(self.zeros()))
         }
     }
 

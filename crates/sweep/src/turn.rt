@@ -9,9 +9,9 @@ ghost use Rattle.sweep.specs.Turn.{step_of, step_by};
 
 use crate::Turned;
 use crate::factors::weighed;
-use crate::lent::Tables;
+use crate::lookup::Tables;
 use crate::poles::{filtep, next};
-use arith::{fit, wide};
+use arith::fit;
 use idle::{Recursive, Scales};
 
 // PREDIC, from the output of the transversal part.
@@ -28,7 +28,7 @@ pub(crate) fn inverse(q: i16, scale: i32) -> i32
     requires scale_bound { mag scale < 2 ^ 15 }
     ensures { (result ≡ mul scale q) × (mag result < 2 ^ 15) }
 {
-    (wide(q) * scale) >> 15
+    (i32::from(q) * scale) >> 15
 }
 
 impl Tables {

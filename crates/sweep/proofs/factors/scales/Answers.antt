@@ -11,6 +11,6 @@ returns c =
     let f = c.args.f in
     let log16 : mag f.log < 2 ^ 15 = search rules in
     let scale16 : mag f.scale < 2 ^ 15 = search rules in
-    let log = widened {x = f.log} c.wide.type_inv c.wide.ensures (record { sfits = log16 }) in
-    let scale = widened {x = f.scale} c.wide-2.type_inv c.wide-2.ensures (record { sfits = scale16 }) in
+    let log = widened {x = f.log} c.from.type_inv c.from.ensures (record { sfits = log16 }) in
+    let scale = widened {x = f.scale} c.from-2.type_inv c.from-2.ensures (record { sfits = scale16 }) in
     λ j. record { log = log j; scale = scale j }

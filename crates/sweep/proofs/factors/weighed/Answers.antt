@@ -33,26 +33,26 @@ log high nb w {wd} {t} {l} hn hw hd ht hl wd≡ t≡ l≡ =
 pub overflow_cast-k : goal.overflow_cast-k
 overflow_cast-k c =
     let s = c.args in
-    let l = log s.high s.f.log s.w s.f.log_bound c.ranges.w.sfits c.wide.type_inv c.top.type_inv c.fit-log.type_inv c.wide.ensures c.top.ensures c.fit-log.ensures in
+    let l = log s.high s.f.log s.w s.f.log_bound c.ranges.w.sfits c.from.type_inv c.top.type_inv c.fit-log.type_inv c.from.ensures c.top.ensures c.fit-log.ensures in
     let a = log_address s.high s.w s.f.log in
     rw l (a.positive, record { fits = omega (arith, a.size) })
 
 pub overflow_add-k : goal.overflow_add-k
 overflow_add-k c =
     let s = c.args in
-    let l = log s.high s.f.log s.w s.f.log_bound c.ranges.w.sfits c.wide.type_inv c.top.type_inv c.fit-log.type_inv c.wide.ensures c.top.ensures c.fit-log.ensures in
+    let l = log s.high s.f.log s.w s.f.log_bound c.ranges.w.sfits c.from.type_inv c.top.type_inv c.fit-log.type_inv c.from.ensures c.top.ensures c.fit-log.ensures in
     rw (l, c.first.ensures) (record { fits = omega (arith, (log_address s.high s.w s.f.log).place) })
 
 pub scale_at-requires-clause-k_bound : goal.scale_at-requires-clause-k_bound
 scale_at-requires-clause-k_bound c =
     let s = c.args in
-    let l = log s.high s.f.log s.w s.f.log_bound c.ranges.w.sfits c.wide.type_inv c.top.type_inv c.fit-log.type_inv c.wide.ensures c.top.ensures c.fit-log.ensures in
+    let l = log s.high s.f.log s.w s.f.log_bound c.ranges.w.sfits c.from.type_inv c.top.type_inv c.fit-log.type_inv c.from.ensures c.top.ensures c.fit-log.ensures in
     rw (l, c.first.ensures) (log_address s.high s.w s.f.log).place
 
 pub invariant_of-result : goal.invariant_of-result
 invariant_of-result c =
     let s = c.args in
-    let l = log s.high s.f.log s.w s.f.log_bound c.ranges.w.sfits c.wide.type_inv c.top.type_inv c.fit-log.type_inv c.wide.ensures c.top.ensures c.fit-log.ensures in
+    let l = log s.high s.f.log s.w s.f.log_bound c.ranges.w.sfits c.from.type_inv c.top.type_inv c.fit-log.type_inv c.from.ensures c.top.ensures c.fit-log.ensures in
     record {
       log_bound = rw l (omega (arith, mag_abs (logsc (top s.high) s.w s.f.log), (log_address s.high s.w s.f.log).size));
       scale_bound = rw (back32 c.scale_at.result c.scale_at.type_inv ∙ c.scale_at.ensures) (scale-held _);
@@ -62,7 +62,7 @@ pub returns : goal.returns
 unfolding factors_of weighed
 returns c =
     let s = c.args in
-    let l = log s.high s.f.log s.w s.f.log_bound c.ranges.w.sfits c.wide.type_inv c.top.type_inv c.fit-log.type_inv c.wide.ensures c.top.ensures c.fit-log.ensures in
+    let l = log s.high s.f.log s.w s.f.log_bound c.ranges.w.sfits c.from.type_inv c.top.type_inv c.fit-log.type_inv c.from.ensures c.top.ensures c.fit-log.ensures in
     let scale = back32 c.scale_at.result c.scale_at.type_inv
     ∙ c.scale_at.ensures
     ∙ (λ j. scale_at (nat_abs (l j) / 64 + c.first.ensures j))

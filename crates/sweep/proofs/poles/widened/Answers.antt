@@ -21,10 +21,10 @@ returns c =
     let p1 : mag s.p1 < 2 ^ 15 = search rules in
     let p2 : mag s.p2 < 2 ^ 15 = search rules in
     λ j. record {
-      a1 = took {x = s.a1} a1 c.wide.type_inv c.wide.ensures j;
-      a2 = took {x = s.a2} a2 c.wide-2.type_inv c.wide-2.ensures j;
-      r1 = (ap stop (took {x = s.r1} r1 c.wide-3.type_inv c.wide-3.ensures) ∙ stop16 s.r1 r1) j;
-      r2 = (ap stop (took {x = s.r2} r2 c.wide-4.type_inv c.wide-4.ensures) ∙ stop16 s.r2 r2) j;
-      p1 = (ap stop (took {x = s.p1} p1 c.wide-7.type_inv c.wide-7.ensures) ∙ stop16 s.p1 p1) j;
-      p2 = (ap stop (took {x = s.p2} p2 c.wide-8.type_inv c.wide-8.ensures) ∙ stop16 s.p2 p2) j;
+      a1 = took {x = s.a1} a1 c.from.type_inv c.from.ensures j;
+      a2 = took {x = s.a2} a2 c.from-2.type_inv c.from-2.ensures j;
+      r1 = (ap stop (took {x = s.r1} r1 c.from-3.type_inv c.from-3.ensures) ∙ stop16 s.r1 r1) j;
+      r2 = (ap stop (took {x = s.r2} r2 c.from-4.type_inv c.from-4.ensures) ∙ stop16 s.r2 r2) j;
+      p1 = (ap stop (took {x = s.p1} p1 c.from-7.type_inv c.from-7.ensures) ∙ stop16 s.p1 p1) j;
+      p2 = (ap stop (took {x = s.p2} p2 c.from-8.type_inv c.from-8.ensures) ∙ stop16 s.p2 p2) j;
     }

@@ -35,5 +35,5 @@ returns-then-p c =
 
 pub returns-else-p : goal.returns-else-p
 returns-else-p c =
-    let e = back32 c.wide.result c.wide.type_inv ∙ c.wide.ensures ∙ (back16 c.chain.result c.chain.type_inv ∙ c.chain.ensures ∙ ap filtez c.zeros.ensures) in
+    let e = back32 c.from.result c.from.type_inv ∙ c.from.ensures ∙ (back16 c.filtez.result c.filtez.type_inv ∙ c.filtez.ensures ∙ ap filtez c.zeros.ensures) in
     (e, rw e (filtez-mag _))

@@ -1,4 +1,4 @@
--- `sweep::lent::Tables::turn` meets its contract: the output and the weight are read by the word, and no sum passes 32 bits.
+-- `sweep::lookup::Tables::turn` meets its contract: the output and the weight are read by the word, and no sum passes 32 bits.
 use Rattle.std.proofs.Common.{rules, ◌≡◌, ◌∙◌, ap, Bool, List, ℕ, ℤ, pos, ◌+ℤ◌, ◌/◌, ◌^◌, ◌<◌, FitsSigned, to_z, of_z, w32, arith}
 use mir.Syntax.{w16}
 use mir.Facts.{to_z-of_z}
@@ -13,7 +13,7 @@ use Rattle.at_hand.proofs.Signed.{outputs_at, output_small, weights_at}
 use Rattle.idle.specs.Recursive.{poles_of}
 use Rattle.idle.specs.Factors.{factors_of, weighed}
 use Rattle.sweep.specs.Turn.{step_of, step_by}
-use Rattle.sweep.proofs.lent.Tables.turn.Goals as goal
+use Rattle.sweep.proofs.lookup.Tables.turn.Goals as goal
 
 -- an output and a weight as they are read
 output : (high : Bool) (q : List ℤ) (w : ℕ) → w < 64 → q ≡ outputs_of high 3 → mag (get_or q w (pos 0)) < 2 ^ 15
