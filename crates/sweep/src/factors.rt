@@ -7,6 +7,7 @@ ghost use Rattle.idle.specs.Factors.{factors_of, top, weighed};
 use arith::{clamp, fit};
 use g722::Factors;
 use idle::Scales;
+use quant::{High, Low, SubBand};
 
 // The factors of a record in 32 bits.
 pub(crate) fn scales(f: Factors) -> Scales
@@ -32,14 +33,14 @@ pub(crate) fn factors(f: Scales) -> Factors
 fn top(high: bool) -> i32
     ensures { result ≡ top high }
 {
-    if high { 22528 } else { 18432 }
+    i32::from(if high { High::TOP } else { Low::TOP })
 }
 
 // The address of log factor 0.
 fn first(high: bool) -> u32
     ensures { result ≡ cond high 0 64 }
 {
-    if high { 0 } else { 64 }
+    u32::from(if high { High::FIRST } else { Low::FIRST })
 }
 
 // The scale factor at an address.

@@ -42,9 +42,9 @@ pub(crate) fn run<E: End>(end: &E, s: Band, xs: &[E::In], ys: &mut [E::Out]) -> 
     let mut rows = Rows::of(s.zeros);
     let mut p = widened(s.poles);
     let mut f = scales(s.factors);
-    for i in 0..ys.len() {
+    for (i, place) in ys.iter_mut().enumerate() {
         let (y, turned) = end.turn(p, f, rows.filtez(), xs[i]);
-        ys[i] = y;
+        *place = y;
         rows.adapt(turned.d);
         p = turned.poles;
         f = turned.factors;
