@@ -10,7 +10,6 @@ ghost use Rattle.std.specs.Prelude.{◌≡◌, ◌*◌, ◌≤◌, ◌<◌, nat_
 ghost use Rattle.mirror.specs.Rows.{nth, taps_at};
 ghost use Rattle.mirror.specs.Block.{block_fits};
 
-use arith::wide;
 use g722::Pairs;
 pub use receive::join;
 pub use transmit::split;
@@ -44,12 +43,13 @@ fn taps(phase: usize, x: &[i16; 171], i: usize) -> i32
     let h = H;
     let mut sum = 0;
     for j in 0..12 {
-        sum += wide(h[2 * j + phase]) * wide(x[i + 11 - j]);
+        sum += i32::from(h[2 * j + phase]) * i32::from(x[i + 11 - j]);
     }
     sum
 }
 
 // Whether so many samples and low and high signals make one block.
+#[tactic(auto, unfolding(crate::specs::Block::block_fits))]
 fn fits(samples: usize, low: usize, high: usize) -> bool
     ensures { result ≡ block_fits samples low high }
 {

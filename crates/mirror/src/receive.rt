@@ -27,6 +27,7 @@ fn join_rows(xd: &[i16; 171], xs: &[i16; 171], n: usize, samples: &mut [i16]) ->
 }
 
 // The receive filter over a block: the samples of its low and high signals. A block that does not fit is given back as it came.
+#[tactic(auto, using(crate::specs::Fitting::fit_lengths), unfolding(crate::specs::Block::join_block))]
 pub fn join(past: Pairs, low: &[i16], high: &[i16], samples: &mut [i16]) -> Joined
     ensures { Does (join_block past low.now high.now samples.old) result samples.new }
 {

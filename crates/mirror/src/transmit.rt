@@ -16,12 +16,12 @@ fn split_rows(even: &[i16; 171], odd: &[i16; 171], low: &mut [i16], high: &mut [
         (low.new, high.new) }
 {
     let mut limited = 0;
-    for i in 0..low.len() {
+    for (i, signal) in low.iter_mut().enumerate() {
         let xa = taps(0, odd, i);
         let xb = taps(1, even, i);
         let xl = limit((xa + xb) >> 13);
         let xh = limit((xa - xb) >> 13);
-        low[i] = xl.value;
+        *signal = xl.value;
         high[i] = xh.value;
         limited += changes(xl, xh);
     }
@@ -29,6 +29,7 @@ fn split_rows(even: &[i16; 171], odd: &[i16; 171], low: &mut [i16], high: &mut [
 }
 
 // The transmit filter over a block: the low and high signals of its samples. A block that does not fit is given back as it came.
+#[tactic(auto, using(crate::specs::Fitting::fit_lengths), unfolding(crate::specs::Block::split_block))]
 pub fn split(past: [i16; 22], samples: &[i16], low: &mut [i16], high: &mut [i16]) -> Parted
     ensures { Does (split_block past samples.now low.old high.old) result
         (low.new, high.new) }

@@ -1,27 +1,10 @@
 -- `mirror::join` meets its contract: the pairs of a block that fits are crossed into rows, the rows filtered, and the last pairs kept.
-use Rattle.std.proofs.Common.{rules, ◌≡◌, sym, ◌∙◌, true, arith, length}
+use Rattle.std.proofs.Common.{rules, ◌≡◌, true, length}
 use Rattle.laws.specs.Outcome.{does}
-use Rattle.mirror.specs.Block.{block_fits, join_block}
+use Rattle.mirror.specs.Block.{block_fits}
 use Rattle.mirror.specs.Fitting.{fit_lengths, join_runs}
 use Rattle.mirror.proofs.Joining.{join_whole}
 use Rattle.mirror.proofs.receive.join.Goals as goal
-
-pub returns-then-not-fits : goal.returns-then-not-fits
-unfolding join_block
-returns-then-not-fits c = search rules
-
-pub cross-requires-2 : goal.cross-requires-2
-cross-requires-2 c =
-    let fit : block_fits (length c.args.samples.now) (length c.args.low.now) (length c.args.high.now) ≡ true = search rules in
-    let n = fit_lengths _ _ _ fit in
-    let d = c.cross.ensures.crossed.long in
-    record { high_len = n.2; low_in_bounds = omega (arith, n.0, d); xs_len = c.cross.ensures.crossed_2.long ∙ sym d }
-
-pub join_rows-limited-requires : goal.join_rows-limited-requires
-join_rows-limited-requires c =
-    let fit : block_fits (length c.args.samples.now) (length c.args.low.now) (length c.args.high.now) ≡ true = search rules in
-    let n = fit_lengths _ _ _ fit in
-    record { n_bound = n.0; samples_len = n.1 }
 
 pub returns : goal.returns
 returns c =

@@ -1,0 +1,13 @@
+-- The pairs of samples so far, and how many of them were limited.
+use Rattle.std.proofs.Common.{ℕ}
+use Rattle.g722.specs.Arithmetic.{limit}
+use Rattle.mirror.specs.Rows.{first_at, second_at}
+use Rattle.mirror.proofs.Loops.{Paired, Counting}
+use Rattle.mirror.proofs.receive.join_rows.Given as goal
+
+abbrev pub invariant-loop-i : goal.invariant-loop-i
+invariant-loop-i l =
+    record {
+      pairs : Paired (λ (k : ℕ). limit (first_at l.xd k)) (λ (k : ℕ). limit (second_at l.xs k)) l.n l.samples l.i;
+      count : Counting (first_at l.xd) (second_at l.xs) l.n l.limited l.i;
+    }
