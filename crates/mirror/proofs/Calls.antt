@@ -1,12 +1,10 @@
 -- A row that is made place by place, by calls that leave the closure as it was.
 -- Assumes nothing.
 use Rattle.std.proofs.Common.{◌≡◌, refl, ap, sym, ◌∙◌, List, ℕ, zero, suc, ◌+◌, ◌≤◌, ◌<◌, ℤ, pos, length, arith, ⊎_elim, eq-or-lt_of_le, ext_get_or}
-use Rattle.std.proofs.Common.{cond, eqb, ltb, ◌*◌, ◌/◌, ◌%◌, ◌-◌, ◌++◌, ltb-true, ltb-false}
-use Rattle.laws.specs.Order.{by_test}
+use Rattle.std.proofs.Common.{cond, eqb, ◌*◌, ◌/◌, ◌%◌}
 use denote.Param.Members.{Mut, Called}
 use Rattle.std.specs.Array.{IsFromFnResult, IsFromFnResultFrom}
 use Rattle.mirror.specs.Rows.{nth, in_turn}
-use Rattle.mirror.proofs.Loops.{in_front_lem, behind}
 
 module _ {F : Type 0} (g : Mut F (ℕ × Unit {0}) ℤ) (h : ℕ → ℤ) (f : F)
     (same : (i : ℕ) (r : ℤ) (q : F) → Called g f (i, tt) r q → (q ≡ f) × (r ≡ h i)) (row : List ℤ) where
@@ -23,13 +21,7 @@ module _ {F : Type 0} (g : Mut F (ℕ × Unit {0}) ℤ) (h : ℕ → ℤ) (f : F
       ext_get_or (pos 0) row list (m.long ∙ sym l)
       (λ k b. at 0 n m.each k (omega arith) (omega (arith, m.long)) ∙ sym (e k (omega (arith, m.long))))
 
--- a number of two lists, one behind the other
-pub either : (p x : List ℤ) (n k : ℕ) → length p ≡ n → nth (p ++ x) k ≡ cond (ltb k n) (nth p k) (nth x (k - n))
-either p x n k l =
-    by_test (ltb k n) (λ e. rw e (sym (in_front_lem p x k (omega (arith, ltb-true k n e)) refl)))
-    (λ e. rw e (sym (behind p x (k - n) (omega (arith, ltb-false k n e)) refl)))
-
--- and one of two rows taken in turn
+-- a number of two rows taken in turn
 pub turned : (f g : ℕ → ℤ) (n i k : ℕ) → k < 2 * n → nth (in_turn f g i n) k ≡ cond (eqb (k % 2) 0) (f (i + k / 2)) (g (i + k / 2))
 unfolding in_turn
 turned f g zero i k l = absurd (omega arith)

@@ -1,34 +1,19 @@
 -- The receive filter over rows, on plain values: at every place it gives what the definitions give of the twelve pairs there.
 -- Assumes nothing.
 use mathlib.Core.Path.{◌≡◌, refl, sym, ap, ◌∙◌}
-use mathlib.Core.List.{List, [], ◌∷◌, ◌++◌, map, zip_with}
+use mathlib.Core.List.{List, [], ◌∷◌, ◌++◌, map}
 use Prim.Native.Nat.{ℕ, zero, suc, ◌+◌, ◌*◌, ◌-◌, ◌≤◌, ◌<◌}
 use native.Mathlib.Omega.{arith}
 use lib.IntN.{ℤ, pos, ◌*ℤ◌}
-use lib.ListN.{length, take, drop, length-append}
-use lib.Seq.{take_all, get_or-take}
-use Rattle.laws.specs.Zipped.{zip_length, zip_at, zip_append}
+use lib.ListN.{length, drop}
 use Rattle.laws.specs.Outcome.{Does}
 use Rattle.g722.specs.Arithmetic.{shr, add, sub, limit, overloads}
 use Rattle.g722.specs.Mirror.{coefficient}
 use Rattle.g722.specs.Steps.{pairs_next, pairs_after}
 use Rattle.g722.specs.declared.Pairs.{Pairs}
-use Rattle.mirror.specs.Rows.{nth, Crossed, in_turn, taps_at, sum_same, first_at, second_at, rows_joined}
+use Rattle.mirror.specs.Rows.{nth, Holds, in_turn, taps_at, sum_same, first_at, second_at, rows_joined}
 use Rattle.mirror.specs.Block.{stopped_xd, stopped_xs, joined_stopped, join_run}
 use Rattle.mirror.proofs.Windows.{Left, none_left, place, left_next}
-
-all : (f : ℤ → ℤ → ℤ) (p q : List ℤ) → length p ≡ length q → take (length p) (zip_with f p q) ≡ zip_with f p q
-all f p q e = take_all (length p) (zip_with f p q) (omega (arith, zip_length f p q e))
-
--- a row on which the eleven past pairs are stored, and behind them the new ones
-crossed : (f : ℤ → ℤ → ℤ) (p q low high : List ℤ) {row₀ row₁ row₂ : List ℤ} → length p ≡ 11 → length q ≡ 11 → length high ≡ length low
-    → Crossed f p q row₀ 0 row₁ (length p) → Crossed f low high row₁ 11 row₂ (length low)
-    → (k : ℕ) → k < 11 + length low → nth row₂ k ≡ f (nth (p ++ low) k) (nth (q ++ high) k)
-crossed f p q low high {row₁ = row₁} {row₂ = row₂} l l' m d e k h =
-    let a : take 11 row₁ ≡ zip_with f p q = rw l at (d.is ∙ all f p q (l ∙ sym l')) in
-    sym (get_or-take (11 + length low) row₂ k (pos 0) h)
-    ∙ ap (λ (t : List ℤ). nth t k) (e.is ∙ (λ i. a i ++ all f low high (sym m) i) ∙ sym (zip_append f p q low high (l ∙ sym l')))
-    ∙ zip_at f (p ++ low) (q ++ high) k (simp length-append (omega arith)) (simp length-append (omega arith))
 
 taps_same : (phase : ℕ) (f g : ℕ → ℤ) (i : ℕ) → ((k : ℕ) → k < 12 → f (i + k) ≡ g k) → taps_at phase f i ≡ taps_at phase g 0
 unfolding taps_at
@@ -38,8 +23,7 @@ taps_same phase f g i e =
     λ t. coefficient (2 * j + phase) *ℤ (ap f n ∙ e (0 + 11 - j) (omega arith)) t)
 
 -- two rows that hold the differences and the sums of the first m numbers of two bands
-module _ (wl wh xd xs : List ℤ) {m : ℕ} (d : (k : ℕ) → k < m → nth xd k ≡ stopped_xd wl wh k)
-    (s : (k : ℕ) → k < m → nth xs k ≡ stopped_xs wl wh k) where
+module _ (wl wh : List ℤ) {xd xs : List ℤ} {m : ℕ} (d : Holds (stopped_xd wl wh) xd m) (s : Holds (stopped_xs wl wh) xs m) where
   -- n pairs from place i on: they come behind p
   pub record JoinedAs (n i : ℕ) (p : Pairs) (low high : List ℤ) : Type 0 where
     pub full : in_turn (first_at xd) (second_at xs) i n ≡ joined_stopped p low high
@@ -60,8 +44,8 @@ module _ (wl wh xd xs : List ℤ) {m : ℕ} (d : (k : ℕ) → k < m → nth xd 
   joined_as (suc n) i p (x ∷ low) (y ∷ high) k k' f g h =
       let u = place (x ∷ []) low f in
       let v = place (y ∷ []) high g in
-      let a = taps_same 0 (nth xd) _ i (λ j o. d (i + j) (omega arith) ∙ λ t. sub (u j o t) (v j o t)) in
-      let b = taps_same 1 (nth xs) _ i (λ j o. s (i + j) (omega arith) ∙ λ t. add (u j o t) (v j o t)) in
+      let a = taps_same 0 (nth xd) _ i (λ j o. d.is (i + j) (omega arith) ∙ λ t. sub (u j o t) (v j o t)) in
+      let b = taps_same 1 (nth xs) _ i (λ j o. s.is (i + j) (omega arith) ∙ λ t. add (u j o t) (v j o t)) in
       let f' = left_next (x ∷ []) low f (suc i) (omega arith) in
       let g' = left_next (y ∷ []) high g (suc i) (omega arith) in
       let r = joined_as n (suc i) (pairs_next p x y) low high (omega arith) (omega arith) f' g' (omega arith) in
@@ -74,21 +58,18 @@ module _ (wl wh xd xs : List ℤ) {m : ℕ} (d : (k : ℕ) → k < m → nth xd 
       }
 
 -- so what the rows of a block give is what the definitions give of it
-pub join_whole : (p : Pairs) (low high : List ℤ) {xd₀ xd₁ xd xs₀ xs₁ xs samples : List ℤ} {next : Pairs} {count : ℕ}
+pub join_whole : (p : Pairs) (low high : List ℤ) {xd xs samples : List ℤ} {next : Pairs} {count : ℕ}
     → length p.rl ≡ 11 → length p.rh ≡ 11 → length high ≡ length low
-    → Crossed sub p.rl p.rh xd₀ 0 xd₁ (length p.rl) → Crossed add p.rl p.rh xs₀ 0 xs₁ (length p.rl)
-    → Crossed sub low high xd₁ 11 xd (length low) → Crossed add low high xs₁ 11 xs (length low)
+    → Holds (stopped_xd (p.rl ++ low) (p.rh ++ high)) xd (11 + length low) → Holds (stopped_xs (p.rl ++ low) (p.rh ++ high)) xs (11 + length low)
     → Does (rows_joined xd xs (length low)) count samples
     → next.rl ≡ drop (length low) (p.rl ++ low) → next.rh ≡ drop (length high) (p.rh ++ high)
     → Does (join_run p low high) (record { limited = count; past = next }) samples
-join_whole p low high l l' k d₁ s₁ d s r q q' =
+join_whole p low high l l' k d s r q q' =
     let n = length low in
-    let xd = crossed sub p.rl p.rh low high l l' k d₁ d in
-    let xs = crossed add p.rl p.rh low high l l' k s₁ s in
     let z : n ≡ 0 + n = omega arith in
     let f : Left 11 (p.rl ++ low) 0 p.rl low = record { long = l; is = refl } in
     let g : Left 11 (p.rh ++ high) 0 p.rh high = record { long = l'; is = refl } in
-    let t = joined_as _ _ _ _ xd xs n 0 p low high refl k f g (omega arith) in
+    let t = joined_as _ _ d s n 0 p low high refl k f g (omega arith) in
     let rl = q ∙ ap (λ (j : ℕ). drop j (p.rl ++ low)) z ∙ t.rl in
     let rh = q' ∙ ap (λ (j : ℕ). drop j (p.rh ++ high)) (k ∙ z) ∙ t.rh in
     let count = r.answer ∙ ap overloads t.full in

@@ -1,65 +1,116 @@
 -- Laws of the loops, on plain values: a row of which the first places are stored, and lists of what is left to store.
 -- Assumes nothing.
 use mathlib.Core.Path.{◌≡◌, refl, sym, ap, ◌∙◌}
-use mathlib.Core.List.{List, [], ◌∷◌, ◌++◌, zip_with, append_assoc, append-nil}
-use mathlib.Core.Logic.{⊎_elim}
-use Prim.Native.Nat.{ℕ, suc, ◌+◌, ◌*◌, ◌-◌, ◌≤◌, ◌<◌}
-use native.Mathlib.Nat.{add-zero, eq-or-lt_of_le}
+use mathlib.Core.Bool.{cond}
+use mathlib.Core.List.{List, [], ◌∷◌, ◌++◌}
+use Prim.Native.Nat.{ℕ, zero, suc, ◌+◌, ◌*◌, ◌-◌, ◌/◌, ◌≤◌, ◌<◌}
 use native.Mathlib.Numerals.{add-one}
 use native.Mathlib.Omega.{arith}
 use lib.IntN.{ℤ, pos}
-use lib.ListN.{length, take, set, length-set, get_or-append}
-use lib.Seq.{get_or-set_same, get_or-set_other, get_or-append-add, take-suc, take-suc-set}
+use borrow.Author.Tests.{ltb-true, ltb-false}
+use borrow.Rule.Slice.PartMut.{put_mid, same_len_mid}
+use lib.Dec.{ltb}
+use lib.ListN.{length, take, drop, set, length-append, length-take, length-drop, length-set, get_or-append}
+use lib.Seq.{get_or-append-add, get_or-take}
+use Rattle.std.proofs.lemmas.List.{take_at}
+use Rattle.std.proofs.lemmas.Slice.{take-put_mid}
+use Rattle.laws.specs.Order.{by_test}
 use Rattle.laws.specs.Turns.{put_one, put_pair, put_all}
-use Rattle.laws.specs.Zipped.{zip_length, zip_at}
 use Rattle.facts.specs.Overload.{Counted, none_counted, two_counted}
 use Rattle.g722.specs.Arithmetic.{limited, changes, overloads}
-use Rattle.mirror.specs.Rows.{nth, Holds, Crossed, from, in_turn}
+use Rattle.mirror.specs.Rows.{nth, Holds, from, in_turn}
 
--- ---- a row that is to be read by its places
+-- ---- one list behind another
 
-pub held_none : (f : ℕ → ℤ) (row : List ℤ) → length row ≡ 171 → Holds f row 0
-held_none f row l = record { long = l; is = λ k h. absurd (omega arith) }
+pub either : (p x : List ℤ) (n k : ℕ) → length p ≡ n → nth (p ++ x) k ≡ cond (ltb k n) (nth p k) (nth x (k - n))
+either p x n k l =
+    by_test (ltb k n) (λ e. rw e (get_or-append p x (pos 0) k (omega (arith, ltb-true k n e))))
+    (λ e.
+    let h : k ≡ length p + (k - n) = omega (arith, ltb-false k n e) in
+    rw e (ap (nth (p ++ x)) h ∙ get_or-append-add p x (k - n) (pos 0)))
 
-pub held_more : {f : ℕ → ℤ} {row : List ℤ} {i n : ℕ} {v : ℤ} → Holds f row i → i < 171 → n ≤ i + 1 → v ≡ f i → Holds f (set row i v) n
-held_more {f} {row} {i} {n} {v} e h m v≡ =
+from_long : (f : ℕ → ℤ) (i n : ℕ) → length (from f i n) ≡ n
+unfolding from
+from_long f i zero = refl
+from_long f i (suc n) = ap suc (from_long f (suc i) n)
+
+from_at : (f : ℕ → ℤ) (i n k : ℕ) → k < n → nth (from f i n) k ≡ f (i + k)
+unfolding from
+from_at f i zero k h = absurd (omega arith)
+from_at f i (suc n) zero h = let e : i ≡ i + 0 = omega arith in ap f e
+from_at f i (suc n) (suc k) h = let e : suc i + k ≡ i + suc k = omega arith in from_at f (suc i) n k (omega arith) ∙ ap f e
+
+stored_at : (f : ℕ → ℤ) {x : List ℤ} {n k : ℕ} → x ≡ from f 0 n → k < n → nth x k ≡ f k
+stored_at f {n = n} {k = k} e h = let z : 0 + k ≡ k = omega arith in ap (λ (l : List ℤ). nth l k) e ∙ from_at f 0 n k h ∙ ap f z
+
+-- a row on which eleven numbers are stored, and then n behind them
+module _ (f g : ℕ → ℤ) (row : List ℤ) {a b : List ℤ} {n r : ℕ} (e : length row ≡ 171) (few : n ≤ 160) (r≡ : r ≡ n)
+    (a≡ : a ≡ from f 0 (length (take 11 row))) (b≡ : b ≡ from g 0 (length (take r (drop 11 (put_mid 0 11 row a))))) where
+  abbrev first : List ℤ
+  first = put_mid 0 11 row a
+
+  front : length (take 11 row) ≡ 11
+  front = omega (arith, length-take 11 row)
+
+  a_long : length a ≡ 11
+  a_long = ap length a≡ ∙ from_long f 0 (length (take 11 row)) ∙ front
+
+  first_long : length first ≡ 171
+  first_long = simp (length-append, length-drop) (omega (arith, a_long, e))
+
+  room : length (take r (drop 11 first)) ≡ n
+  room = omega (arith, length-take r (drop 11 first), length-drop 11 first, first_long)
+
+  b_long : length b ≡ length (take r (drop 11 first))
+  b_long = ap length b≡ ∙ from_long g 0 (length (take r (drop 11 first)))
+
+  pub laid_long : length (put_mid 11 r first b) ≡ 171
+  laid_long = same_len_mid 11 r first b b_long ∙ first_long
+
+  pub laid : (k : ℕ) → k < 11 + n → nth (put_mid 11 r first b) k ≡ cond (ltb k 11) (f k) (g (k - 11))
+  laid k h =
+      let both : take (11 + n) (put_mid 11 r first b) ≡ a ++ b =
+      take-put_mid 11 r first b (11 + n) (omega (arith, b_long, room)) (omega (arith, first_long))
+      ∙ ap (λ (t : List ℤ). t ++ b) (take_at a (drop 11 row) 11 a_long) in
+      sym (get_or-take (11 + n) (put_mid 11 r first b) k (pos 0) h)
+      ∙ ap (λ (t : List ℤ). nth t k) both
+      ∙ either a b 11 k a_long
+      ∙ by_test (ltb k 11)
+        (λ t. let in_a : k < length (take 11 row) = omega (arith, ltb-true k 11 t, front) in rw t (stored_at f a≡ in_a))
+        (λ t. let in_b : k - 11 < length (take r (drop 11 first)) = omega (arith, ltb-false k 11 t, room) in rw t (stored_at g b≡ in_b))
+
+-- every second number of p, and then of s
+pub dealt : (p s : List ℤ) (phase : ℕ) (row : List ℤ) {a b : List ℤ} {r : ℕ} → length row ≡ 171 → length p ≡ 22 → length s ≤ 320 → phase ≤ 1
+    → r ≡ length s / 2 → a ≡ from (λ (k : ℕ). nth p (2 * k + phase)) 0 (length (take 11 row))
+    → b ≡ from (λ (k : ℕ). nth s (2 * k + phase)) 0 (length (take r (drop 11 (put_mid 0 11 row a))))
+    → Holds (λ (k : ℕ). nth (p ++ s) (2 * k + phase)) (put_mid 11 r (put_mid 0 11 row a) b) (11 + length s / 2)
+dealt p s phase row e p≡ few low r≡ a≡ b≡ =
+    let f : ℕ → ℤ = λ k. nth p (2 * k + phase) in
+    let g : ℕ → ℤ = λ k. nth s (2 * k + phase) in
     record {
-      long = length-set row i v ∙ e.long;
-      is = λ k l.
-          ⊎_elim
-          (λ (q : k ≡ i). rw q (get_or-set_same row i v (pos 0) (omega (arith, e.long)) ∙ v≡))
-          (λ (q : k < i). get_or-set_other row i k v (pos 0) (λ r. omega arith) ∙ e.is k q)
-          (eq-or-lt_of_le (let o : k ≤ i = omega arith in o));
+      long = laid_long f g row e (omega arith) r≡ a≡ b≡;
+      is = λ k h.
+          laid f g row e (omega arith) r≡ a≡ b≡ k h
+          ∙ by_test (ltb k 11)
+            (λ t. let i : 2 * k + phase < length p = omega (arith, ltb-true k 11 t) in rw t (sym (get_or-append p s (pos 0) (2 * k + phase) i)))
+            (λ t.
+            let i : 2 * k + phase ≡ length p + (2 * (k - 11) + phase) = omega (arith, ltb-false k 11 t) in
+            rw t (sym (ap (nth (p ++ s)) i ∙ get_or-append-add p s (2 * (k - 11) + phase) (pos 0))));
     }
 
--- a number of p, and one of x, in p with x behind it
-module _ (p x : List ℤ) {v : ℤ} (i : ℕ) where
-  pub in_front_lem : i < length p → v ≡ nth p i → v ≡ nth (p ++ x) i
-  in_front_lem h e = e ∙ sym (get_or-append p x (pos 0) i h)
-
-  pub behind : {k : ℕ} → k ≡ length p + i → v ≡ nth x i → v ≡ nth (p ++ x) k
-  behind h e = e ∙ sym (ap (nth (p ++ x)) h ∙ get_or-append-add p x i (pos 0))
-
--- ---- a row on which pairs are stored from a place on, taken together by f
-
-pub crossed_none : (f : ℤ → ℤ → ℤ) (low high row : List ℤ) (at : ℕ) → Crossed f low high row at row 0
-crossed_none f low high row at =
-    record { long = refl; is = ap (λ (n : ℕ). take n row) (add-zero at) ∙ sym (append-nil (take at row)) }
-
-pub crossed_more : {f : ℤ → ℤ → ℤ} {low high before row : List ℤ} {at i : ℕ} {v : ℤ} → Crossed f low high before at row i
-    → length low ≡ length high → i < length low → at + i < length before → v ≡ f (nth low i) (nth high i)
-    → Crossed f low high before at (set row (at + i) v) (i + 1)
-crossed_more {f} {low} {high} {before} {row} {at} {i} {v} e s h k v≡ =
-    let z = zip_with f low high in
-    let n : at + (i + 1) ≡ suc (at + i) = omega arith in
+-- what f makes of the numbers of p and q, and then of those of s and t
+pub crossed : (f : ℤ → ℤ → ℤ) (p q s t row : List ℤ) {a b : List ℤ} {r : ℕ} → length p ≡ 11 → length q ≡ 11 → length row ≡ 171 → length s ≤ 160
+    → r ≡ length s → a ≡ from (λ (k : ℕ). f (nth p k) (nth q k)) 0 (length (take 11 row))
+    → b ≡ from (λ (k : ℕ). f (nth s k) (nth t k)) 0 (length (take r (drop 11 (put_mid 0 11 row a))))
+    → Holds (λ (k : ℕ). f (nth (p ++ s) k) (nth (q ++ t) k)) (put_mid 11 r (put_mid 0 11 row a) b) (11 + length s)
+crossed f p q s t row p≡ q≡ e few r≡ a≡ b≡ =
+    let past : ℕ → ℤ = λ k. f (nth p k) (nth q k) in
+    let new : ℕ → ℤ = λ k. f (nth s k) (nth t k) in
     record {
-      long = length-set row (at + i) v ∙ e.long;
-      is =
-          ap (λ (m : ℕ). take m (set row (at + i) v)) n
-          ∙ take-suc-set row (at + i) v (omega (arith, e.long))
-          ∙ (λ j. e.is j ++ ((v≡ ∙ sym (zip_at f low high i s h)) j ∷ []))
-          ∙ append_assoc (take at before) (take i z) (nth z i ∷ [])
-          ∙ ap (λ (l : List ℤ). take at before ++ l) (rw add-one (sym (take-suc z i (pos 0) (omega (arith, zip_length f low high s)))));
+      long = laid_long past new row e few r≡ a≡ b≡;
+      is = λ k h.
+          laid past new row e few r≡ a≡ b≡ k h
+          ∙ rw (either p s 11 k p≡, either q t 11 k q≡) (by_test (ltb k 11) (λ i. rw i) (λ i. rw i));
     }
 
 -- ---- a list of n numbers that is made one by one

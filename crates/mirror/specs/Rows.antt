@@ -1,7 +1,7 @@
 -- The mirror filters over rows of numbers, one for each phase of the table: twelve taps at every place of a row.
 -- Assumes nothing.
-use Rattle.std.specs.Prelude.{◌≡◌, refl, ℕ, zero, suc, ◌+◌, ◌*◌, ◌-◌, ◌<◌, ℤ, pos, ◌+ℤ◌, ◌-ℤ◌, ◌*ℤ◌, length, take, get_or}
-use mathlib.Core.List.{List, [], ◌∷◌, ◌++◌, zip_with}
+use Rattle.std.specs.Prelude.{◌≡◌, refl, ℕ, zero, suc, ◌+◌, ◌*◌, ◌-◌, ◌<◌, ℤ, pos, ◌+ℤ◌, ◌-ℤ◌, ◌*ℤ◌, length, get_or}
+use mathlib.Core.List.{List, [], ◌∷◌}
 use Rattle.std.proofs.Common.{arith}
 use Rattle.laws.specs.Outcome.{Outcome}
 use Rattle.g722.specs.Arithmetic.{shr, limit, overloads}
@@ -15,11 +15,6 @@ nth x k = get_or x k (pos 0)
 pub record Holds (f : ℕ → ℤ) (row : List ℤ) (n : ℕ) : Type 0 where
   pub long : length row ≡ 171
   pub is : (k : ℕ) → k < n → nth row k ≡ f k
-
--- a row after the first i pairs of two lists, taken together by f, are stored from a place on: what stood before that place stays
-pub record Crossed (f : ℤ → ℤ → ℤ) (low high before : List ℤ) (at : ℕ) (row : List ℤ) (i : ℕ) : Type 0 where
-  pub long : length row ≡ length before
-  pub is : take (at + i) row ≡ take at before ++ take i (zip_with f low high)
 
 -- f i, f (i + 1), .., n of them
 unfoldable pub from : (ℕ → ℤ) → ℕ → ℕ → List ℤ

@@ -37,8 +37,7 @@ pub fn join(past: Pairs, low: &[i16], high: &[i16], samples: &mut [i16]) -> Join
     let n = low.len();
     let mut xd = [1i16; 171];
     let mut xs = [1i16; 171];
-    cross(&mut xd, &mut xs, 0, &past.rl, &past.rh);
-    cross(&mut xd, &mut xs, 11, low, high);
+    cross(&mut xd, &mut xs, &past, low, high);
     let limited = join_rows(&xd, &xs, n, samples);
     let next = Pairs {
         rl: last(past.rl, low),

@@ -11,8 +11,6 @@ returns c =
     let fit : block_fits (length c.args.samples.now) (length c.args.low.now) (length c.args.high.now) ≡ true = search rules in
     let rl : length c.args.past.rl ≡ 11 = search rules in
     let rh : length c.args.past.rh ≡ 11 = search rules in
-    let old = c.cross.ensures in
-    let new = c.cross-2.ensures in
-    let d = join_whole _ _ _ rl rh (fit_lengths _ _ _ fit).2 old.crossed old.crossed_2 new.crossed new.crossed_2
-    c.join_rows-limited.ensures c.last.ensures c.last-2.ensures in
+    let rows = c.cross.ensures in
+    let d = join_whole _ _ _ rl rh (fit_lengths _ _ _ fit).2 rows.differences rows.sums c.join_rows-limited.ensures c.last.ensures c.last-2.ensures in
     does (join_runs _ _ _ _ fit) d.answer d.left
