@@ -4,13 +4,13 @@ use mathlib.Core.Path.{◌≡◌, refl, sym, ap, ◌∙◌}
 use mathlib.Core.List.{List, [], ◌∷◌}
 use Prim.Native.Nat.{ℕ}
 use lib.IntN.{ℤ}
-use Rattle.std.specs.Prelude.{Ok}
 use Rattle.laws.specs.Outcome.{Does}
 use Rattle.g722.specs.Arithmetic.{overloads}
 use Rattle.g722.specs.Mirror.{lowt, hight}
 use Rattle.g722.specs.Coding.{window, il_of, ih_of, octet_of, coder_step, octets_of, coder_after, split_in_full, coded}
 use Rattle.g722.specs.declared.Coder.{Coder}
-use Rattle.g722.specs.Answers.{Coded, answered}
+use Rattle.g722.specs.Answers.{Coded}
+use Rattle.facts.specs.Blocks.{coder_done}
 use Rattle.mirror.specs.declared.Parted.{Parted}
 use Rattle.mirror.specs.Block.{filtered_by, past_after, split_run}
 use Rattle.coder.specs.declared.BothBands.{BothBands}
@@ -35,7 +35,7 @@ record_in_turn c (x ∷ y ∷ rest) = record_in_turn (coder_step c x y) rest
 module _ (c : Coder) (s : List ℤ) where
   pub coded_in_turn : {f : Parted} {xl xh : List ℤ} {b : BothBands} {o : List ℕ}
       → Does (split_run c.past s) f (xl, xh) → Does (bands_run c.low c.high xl xh) b o
-      → Does (coded c s) (answered c (Ok (record { limited = f.limited; next = record { low = b.low; high = b.high; past = f.past } }))) o
+      → Does (coded c s) (coder_done f.limited (record { low = b.low; high = b.high; past = f.past })) o
   unfolding coded
   coded_in_turn f b =
       let bands = b.answer ∙ λ i. bands_after c.low c.high (f.left i).0 (f.left i).1 in

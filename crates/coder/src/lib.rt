@@ -3,9 +3,11 @@
 #![tactic(auto)]
 
 mod bands;
+mod kept;
 
-ghost use Rattle.std.specs.Prelude.{◌≡◌, true, ◌*◌, ◌≤◌, length, Ok};
+ghost use Rattle.std.specs.Prelude.{◌≡◌, true, ◌*◌, ◌≤◌, length};
 ghost use Rattle.laws.specs.Outcome.{Does};
+ghost use Rattle.facts.specs.Blocks.{coder_done};
 ghost use Rattle.g722.specs.Answers.{answered};
 ghost use Rattle.g722.specs.Records.{all_in_range, reset_coder, good_coder};
 ghost use Rattle.g722.specs.Coding.{coded, code_call};
@@ -13,6 +15,7 @@ ghost use Rattle.g722.specs.Coding.{coded, code_call};
 use bands::bands_all;
 use bounds::{all_in_range, first_bad, good_high, good_low, misfit, reset_band};
 use g722::{Accepted, Band, Coder, Refusal};
+use kept::{Kept, given};
 use mirror::split;
 
 // Both bands.
@@ -44,24 +47,23 @@ pub fn good_coder(c: Coder) -> bool
 
 // The filter and then the bands, with lent room for the signals and words on their way.
 fn in_turn(
-    c: Coder,
+    c: Kept,
     samples: &[i16],
     low: &mut [i16],
     high: &mut [i16],
     words: &mut [u8],
     octets: &mut [u8],
-) -> Accepted<Coder>
+) -> Accepted<Kept>
     requires octets_len_bound { length octets.old ≤ 160 }
     requires samples_len { length samples.now ≡ 2 * length octets.old }
     requires low_len { length low.old ≡ length octets.old }
     requires high_len { length high.old ≡ length octets.old }
     requires words_len { length words.old ≡ length octets.old }
-    requires c_value { good_coder c ≡ true }
     requires samples_value { all_in_range samples.now ≡ true }
-    ensures { Does (coded c samples.now) (answered c (Ok result)) octets.new }
+    ensures { Does (coded c.coder samples.now) (coder_done result.limited result.next.coder) octets.new }
 {
-    let parted = split(c.past, samples, low, high);
-    let bands = bands_all(c.low, c.high, low, high, words, octets);
+    let parted = split(c.coder.past, samples, low, high);
+    let bands = bands_all(c.coder.low, c.coder.high, low, high, words, octets);
     let past = parted.past;
     let next = Coder {
         low: bands.low,
@@ -70,17 +72,16 @@ fn in_turn(
     };
     Accepted {
         limited: parted.limited,
-        next,
+        next: Kept { coder: next },
     }
 }
 
 // The same over a block, with room of its own, which begins as ones: for zeros the compiler would call C's memset.
-fn block(c: Coder, samples: &[i16], octets: &mut [u8]) -> Accepted<Coder>
+fn block(c: Kept, samples: &[i16], octets: &mut [u8]) -> Accepted<Kept>
     requires octets_len_bound { length octets.old ≤ 160 }
     requires samples_len { length samples.now ≡ 2 * length octets.old }
-    requires c_value { good_coder c ≡ true }
     requires samples_value { all_in_range samples.now ≡ true }
-    ensures { Does (coded c samples.now) (answered c (Ok result)) octets.new }
+    ensures { Does (coded c.coder samples.now) (coder_done result.limited result.next.coder) octets.new }
 {
     let n = octets.len();
     let mut low = [1i16; 160];
@@ -97,12 +98,11 @@ fn block(c: Coder, samples: &[i16], octets: &mut [u8]) -> Accepted<Coder>
 }
 
 // Block after block.
-fn run(c: Coder, samples: &[i16], octets: &mut [u8]) -> Accepted<Coder>
+fn run(c: Kept, samples: &[i16], octets: &mut [u8]) -> Accepted<Kept>
     requires octets_len_bound { length octets.old ≤ 8000 }
     requires samples_len { length samples.now ≡ 2 * length octets.old }
-    requires c_value { good_coder c ≡ true }
     requires samples_value { all_in_range samples.now ≡ true }
-    ensures { Does (coded c samples.now) (answered c (Ok result)) octets.new }
+    ensures { Does (coded c.coder samples.now) (coder_done result.limited result.next.coder) octets.new }
 {
     let mut next = c;
     let mut limited = 0;
@@ -128,5 +128,5 @@ pub fn code(c: Coder, samples: &[i16], octets: &mut [u8]) -> Result<Accepted<Cod
     if !all_in_range(samples) {
         return Err(Refusal::Sample(first_bad(samples)));
     }
-    Ok(run(c, samples, octets))
+    Ok(given(run(Kept { coder: c }, samples, octets)))
 }

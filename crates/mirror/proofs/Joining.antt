@@ -1,10 +1,10 @@
 -- The receive filter over rows, on plain values: at every place it gives what the definitions give of the twelve pairs there.
 -- Assumes nothing.
-use mathlib.Core.Path.{◌≡◌, refl, sym, ap, ◌∙◌}
+use mathlib.Core.Path.{◌≡◌, refl, ap, ◌∙◌}
 use mathlib.Core.List.{List, [], ◌∷◌, ◌++◌, map}
 use Prim.Native.Nat.{ℕ, zero, suc, ◌+◌, ◌*◌, ◌-◌, ◌≤◌, ◌<◌}
 use native.Mathlib.Omega.{arith}
-use lib.IntN.{ℤ, pos, ◌*ℤ◌}
+use lib.IntN.{ℤ, ◌*ℤ◌}
 use lib.ListN.{length, drop}
 use Rattle.laws.specs.Outcome.{Does}
 use Rattle.g722.specs.Arithmetic.{shr, add, sub, limit, overloads}

@@ -76,8 +76,8 @@ module _ (f g : ℕ → ℤ) (row : List ℤ) {a b : List ℤ} {n r : ℕ} (e : 
       ∙ ap (λ (t : List ℤ). nth t k) both
       ∙ either a b 11 k a_long
       ∙ by_test (ltb k 11)
-        (λ t. let in_a : k < length (take 11 row) = omega (arith, ltb-true k 11 t, front) in rw t (stored_at f a≡ in_a))
-        (λ t. let in_b : k - 11 < length (take r (drop 11 first)) = omega (arith, ltb-false k 11 t, room) in rw t (stored_at g b≡ in_b))
+      (λ t. let in_a : k < length (take 11 row) = omega (arith, ltb-true k 11 t, front) in rw t (stored_at f a≡ in_a))
+      (λ t. let in_b : k - 11 < length (take r (drop 11 first)) = omega (arith, ltb-false k 11 t, room) in rw t (stored_at g b≡ in_b))
 
 -- every second number of p, and then of s
 pub dealt : (p s : List ℤ) (phase : ℕ) (row : List ℤ) {a b : List ℤ} {r : ℕ} → length row ≡ 171 → length p ≡ 22 → length s ≤ 320 → phase ≤ 1
@@ -92,10 +92,10 @@ dealt p s phase row e p≡ few low r≡ a≡ b≡ =
       is = λ k h.
           laid f g row e (omega arith) r≡ a≡ b≡ k h
           ∙ by_test (ltb k 11)
-            (λ t. let i : 2 * k + phase < length p = omega (arith, ltb-true k 11 t) in rw t (sym (get_or-append p s (pos 0) (2 * k + phase) i)))
-            (λ t.
-            let i : 2 * k + phase ≡ length p + (2 * (k - 11) + phase) = omega (arith, ltb-false k 11 t) in
-            rw t (sym (ap (nth (p ++ s)) i ∙ get_or-append-add p s (2 * (k - 11) + phase) (pos 0))));
+          (λ t. let i : 2 * k + phase < length p = omega (arith, ltb-true k 11 t) in rw t (sym (get_or-append p s (pos 0) (2 * k + phase) i)))
+          (λ t.
+          let i : 2 * k + phase ≡ length p + (2 * (k - 11) + phase) = omega (arith, ltb-false k 11 t) in
+          rw t (sym (ap (nth (p ++ s)) i ∙ get_or-append-add p s (2 * (k - 11) + phase) (pos 0))));
     }
 
 -- what f makes of the numbers of p and q, and then of those of s and t

@@ -4,7 +4,10 @@ use Prim.Native.Nat.{ℕ}
 use Rattle.laws.specs.Outcome.{does}
 use Rattle.facts.specs.Lengths.{twice, few}
 use Rattle.facts.specs.Range.{none_bad, some_bad}
+use Rattle.facts.specs.Blocks.{coder_done}
 use Rattle.g722.specs.Coding.{not_coded}
+use Rattle.g722.specs.declared.Accepted.{Accepted}
+use Rattle.g722.specs.declared.Coder.{Coder}
 use Rattle.coder.proofs.Laws.{call_misfit, call_broken, call_bad, call_done}
 use Rattle.coder.proofs.code.Goals as goal
 
@@ -38,4 +41,5 @@ returns c =
     let fit = sym c.misfit.ensures ∙ c.if-misfit.false in
     let good = sym c.good_coder.ensures ∙ c.if-not-good_coder.false in
     let clean = none_bad _ (sym c.all_in_range.ensures ∙ c.if-not-all_in_range.false) in
-    does (call_done _ _ _ fit good clean) c.run.ensures.answer c.run.ensures.left
+    does (call_done _ _ _ fit good clean)
+    (ap (λ (r : Accepted Coder). coder_done r.limited r.next) c.given.ensures ∙ c.run.ensures.answer) c.run.ensures.left

@@ -12,7 +12,7 @@ use Rattle.g722.specs.declared.Coder.{Coder}
 use Rattle.laws.specs.Outcome.{Does, does}
 use Rattle.laws.specs.Blocks.{part_long, part_put}
 use Rattle.facts.specs.Range.{range_take, range_drop}
-use Rattle.facts.specs.Blocks.{coder_done, coded_more, coded_next_good, coded_few}
+use Rattle.facts.specs.Blocks.{coder_done, coded_more, coded_few}
 use Rattle.g722.specs.Arithmetic.{overloads}
 use Rattle.g722.specs.Coding.{octets_of, coder_after, split_in_full, coded}
 use Rattle.coder.proofs.run.Goals as goal
@@ -30,12 +30,6 @@ pub loop-at-init : goal.loop-at-init
 unfolding coded octets_of coder_after split_in_full overloads
 loop-at-init c = record { same_length = refl; so_far = record { answer = refl; left = refl } }
 
-pub block-done-requires-clause-c_value : goal.block-done-requires-clause-c_value
-block-done-requires-clause-c_value c =
-    let samples = c.args.samples.now in
-    let n = 2 * c.loop-at.at in
-    coded_next_good _ (take n samples) c.loop-at.invariant.so_far c.requires.c_value (range_take n samples c.requires.samples_value)
-
 pub block-done-requires-clause-samples_value : goal.block-done-requires-clause-samples_value
 block-done-requires-clause-samples_value c =
     let samples = c.args.samples.now in
@@ -47,7 +41,7 @@ overflow_add-limited c =
     let samples = c.args.samples.now in
     let to = c.min-to.result in
     let more =
-    behind c.args.c samples c.loop-at.octets (omega arith) (omega arith) (omega arith) c.block-done.auto.octets c.loop-at.invariant.so_far
+    behind c.args.c.coder samples c.loop-at.octets (omega arith) (omega arith) (omega arith) c.block-done.auto.octets c.loop-at.invariant.so_far
     c.block-done.ensures in
     omega (arith, coded_few _ (take (2 * to) samples) more, length-take (2 * to) samples)
 
@@ -62,7 +56,7 @@ loop-at-preserved c =
       same_length = long ∙ c.loop-at.invariant.same_length;
       so_far =
           rw to
-          (behind c.args.c c.args.samples.now octets (omega arith) (omega arith) (omega arith) c.block-done.auto.octets c.loop-at.invariant.so_far
+          (behind c.args.c.coder c.args.samples.now octets (omega arith) (omega arith) (omega arith) c.block-done.auto.octets c.loop-at.invariant.so_far
           c.block-done.ensures);
     }
 
@@ -73,9 +67,9 @@ returns-2 c =
     let octets = c.loop-at.octets in
     let to = c.min-to.result in
     let more =
-    behind c.args.c samples octets (omega arith) (omega arith) (omega arith) c.block-done.auto.octets c.loop-at.invariant.so_far
+    behind c.args.c.coder samples octets (omega arith) (omega arith) (omega arith) c.block-done.auto.octets c.loop-at.invariant.so_far
     c.block-done.ensures in
     let all = take_all (2 * to) samples (omega arith) in
     let long = part_long (omega arith) octets c.block-done.new.octets c.block-done.auto.octets in
     let full = take_all to _ (omega (arith, long)) in
-    does (ap (coded c.args.c) (sym all)) more.answer (sym full ∙ more.left)
+    does (ap (coded c.args.c.coder) (sym all)) more.answer (sym full ∙ more.left)

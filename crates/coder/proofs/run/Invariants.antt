@@ -11,7 +11,7 @@ abbrev pub invariant-loop-at : goal.invariant-loop-at
 invariant-loop-at l =
     record {
       same_length : length l.octets ≡ length l.fn.octets;
-      so_far : Does (coded l.fn.c (take (2 * l.at) l.samples)) (coder_done l.limited l.next) (take l.at l.octets);
+      so_far : Does (coded l.fn.c.coder (take (2 * l.at) l.samples)) (coder_done l.limited l.next.coder) (take l.at l.octets);
     }
 
 abbrev pub decreases-loop-at : goal.decreases-loop-at

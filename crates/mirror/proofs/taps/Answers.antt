@@ -1,6 +1,5 @@
 -- `mirror::taps` meets its contract: one product more.
-use Rattle.std.proofs.Common.{rules, ◌≡◌, arith, ℕ, ◌+◌, ◌*◌, ◌-◌}
-use lib.IntN.{ℤ}
+use Rattle.std.proofs.Common.{rules, arith, ◌+◌, ◌*◌, ◌-◌}
 use mir.Syntax.{w32}
 use mir.Val.{to_z, of_z}
 use Rattle.g722.specs.Tables.{h}

@@ -1,5 +1,5 @@
 -- The sum so far, with its bound.
-use Prim.Native.Nat.{ℕ, ◌+◌, ◌*◌, ◌-◌, ◌≤◌}
+use Prim.Native.Nat.{ℕ, ◌+◌, ◌*◌, ◌-◌}
 use Rattle.g722.specs.Mirror.{coefficient}
 use Rattle.mirror.specs.Rows.{nth}
 use Rattle.mirror.proofs.Sums.{Summed}
