@@ -116,7 +116,7 @@ fn run(c: Kept, samples: &[i16], octets: &mut [u8]) -> Accepted<Kept>
 }
 
 // A coding call: 2n samples to n octets, n at most 8000. All samples are looked at before the first is coded.
-#[tactic(auto, using(facts::specs::Range::none_bad, facts::specs::Range::some_bad), unfolding(g722::specs::Coding::code_call, g722::specs::Coding::not_coded, g722::specs::Coding::misfit))]
+#[tactic(auto, unfolding(g722::specs::Coding::code_call, g722::specs::Coding::not_coded, g722::specs::Coding::misfit))]
 pub fn code(c: Coder, samples: &[i16], octets: &mut [u8]) -> Result<Accepted<Coder>, Refusal>
     ensures { Does (code_call c samples.now octets.old) (answered c result) octets.new }
 {

@@ -1,13 +1,13 @@
--- `coder::code` meets its contract: a call that nothing refuses is its run.
-use Rattle.std.proofs.Common.{◌≡◌, sym, ap, ◌∙◌, true, false, List, ◌≤◌, length}
+-- `coder::code` meets its contract: a sample out of range is found, and a call that nothing refuses is its run.
+use Rattle.std.proofs.Common.{◌≡◌, sym, ap, ◌∙◌, arith, true, false, List, ◌≤◌, length}
 use lib.IntN.{ℤ}
 use Prim.Native.Nat.{ℕ}
 use borrow.Author.Tests.{le-ltb}
 use Rattle.laws.specs.Outcome.{does}
 use Rattle.facts.specs.Blocks.{coder_done}
-use Rattle.facts.specs.Range.{none_bad}
+use Rattle.facts.specs.Range.{none_bad, some_bad}
 use Rattle.g722.specs.Records.{good_coder}
-use Rattle.g722.specs.Coding.{first_bad, misfit, coded, code_call}
+use Rattle.g722.specs.Coding.{first_bad, misfit, not_coded, coded, code_call}
 use Rattle.g722.specs.declared.Accepted.{Accepted}
 use Rattle.g722.specs.declared.Coder.{Coder}
 use Rattle.coder.proofs.code.Goals as goal
@@ -16,6 +16,10 @@ accepted : (c : Coder) (s : List ℤ) (o : List ℕ) → misfit (length s) (leng
     → code_call c s o ≡ coded c s
 unfolding code_call
 accepted c s o e g b = rw (e, g, le-ltb _ _ b)
+
+pub returns-then-not-all_in_range : goal.returns-then-not-all_in_range
+unfolding code_call not_coded misfit
+returns-then-not-all_in_range c = grind (arith, some_bad)
 
 pub returns : goal.returns
 returns c =
