@@ -14,15 +14,6 @@ two_at = equation (λ κs a l m. refl) (λ M. big_endian.two_at.Met.met)
 pub four_at : LeavesOne contracts.four_at.ended (λ M 𝓤. contracts.four_at.clauses) big_endian.four_at.Symbol.name big_endian.four_at.Symbol.code
 four_at = equation (λ κs a l m. refl) (λ M. big_endian.four_at.Met.met)
 
-pub sample : LeavesOne contracts.sample.ended (λ M 𝓤. contracts.sample.clauses) big_endian.sample.Symbol.name big_endian.sample.Symbol.code
-sample = equation (λ κs a l m. refl) (λ M. big_endian.sample.Met.met)
-
-pub high : LeavesOne contracts.high.ended (λ M 𝓤. contracts.high.clauses) big_endian.high.Symbol.name big_endian.high.Symbol.code
-high = equation (λ κs a l m. refl) (λ M. big_endian.high.Met.met)
-
-pub low : LeavesOne contracts.low.ended (λ M 𝓤. contracts.low.clauses) big_endian.low.Symbol.name big_endian.low.Symbol.code
-low = equation (λ κs a l m. refl) (λ M. big_endian.low.Met.met)
-
 pub load : LeavesOne contracts.load.ended (λ M 𝓤. contracts.load.clauses) big_endian.load.Symbol.name big_endian.load.Symbol.code
 load = call (coded_list coded_ℤ) (λ κs a l m e i. (tt, (e i, tt))) (λ M. big_endian.load.Met.met)
 

@@ -5,4 +5,4 @@ mod numbers;
 mod samples;
 
 pub use numbers::{byte, four_at, two_at};
-pub use samples::{high, load, low, sample, store};
+pub use samples::{load, store};

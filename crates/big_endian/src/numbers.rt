@@ -32,7 +32,12 @@ pub fn four_at(b: &[u8], i: usize) -> u32
     ensures { result ≡ four_at b.now i }
 {
     if i < b.len() {
-        u32::from(two_at(b, i)) * 65536 + u32::from(two_at(b, i + 2))
+        u32::from_be_bytes([
+            byte_at(b, i),
+            byte_at(b, i + 1),
+            byte_at(b, i + 2),
+            byte_at(b, i + 3),
+        ])
     } else {
         0
     }

@@ -1,9 +1,16 @@
--- `big_endian::load` meets its contract.
-use Rattle.std.proofs.Common.{◌≡◌, ◌∙◌, refl, ap, arith, ℕ}
+-- `big_endian::load` meets its contract: two's complement is the number of the two bytes, less 65536 from 32768 up.
+use Rattle.std.proofs.Common.{◌≡◌, ◌∙◌, refl, ap, arith, List, [], ◌∷◌, ℕ, ℤ, ◌+◌, ◌*◌, ◌/◌, ◌<◌, to_z, min, length, get_or, take, drop, length-take, append-nil, drop_of_length-le}
+use Rattle.std.specs.Int.{w16}
+use Rattle.std.proofs.lemmas.Bool.Decides.{nat_tests}
+use Rattle.std.proofs.lemmas.Int.{ints}
 use Rattle.laws.specs.Back.{back16}
-use Rattle.big_endian.specs.Bytes.{pcm_samples, loaded, load_call}
-use Rattle.big_endian.proofs.Turns.{load_turn}
+use Rattle.big_endian.specs.Bytes.{sample_of, pcm_samples, loaded, load_call}
+use Rattle.big_endian.proofs.Turns.{load_turn, pair_at}
 use Rattle.big_endian.proofs.samples.load.Goals as goal
+
+of_word : (high low : ℕ) → high < 256 → low < 256 → to_z w16 (high * 256 + low) ≡ sample_of high low
+unfolding sample_of
+of_word high low h l = grind (arith, ints, nat_tests)
 
 pub loop-i-init : goal.loop-i-init
 unfolding loaded pcm_samples
@@ -11,13 +18,26 @@ loop-i-init c = refl
 
 pub loop-i-preserved : goal.loop-i-preserved
 loop-i-preserved c =
-    load_turn c.loop-i.i c.args.bytes.now c.args.samples.now (omega arith) (omega arith) c.loop-i.invariant
-    (back16 c.sample.result c.sample.type_inv ∙ c.sample.ensures)
+    let i = c.loop-i.i in
+    let b = c.args.bytes.now in
+    let high = get_or b (2 * i) 0 in
+    let low = get_or b (2 * i + 1) 0 in
+    let front = c.as_chunks.ensures.front in
+    let inside : i < length b / 2 = omega (arith, c.as_chunks.ensures.front_len, length-take {A = ℤ}) in
+    let pair : get_or c.as_chunks.result.0.now i [] ≡ high ∷ low ∷ [] =
+    ap (λ (ps : List (List ℕ)). get_or ps i []) front ∙ pair_at (length b / 2) i b [] inside (omega arith) in
+    let word : c.from_be_bytes.result ≡ sample_of high low =
+    c.from_be_bytes.ensures ∙ rw pair (of_word high low (c.type_inv.bytes (2 * i)).fits (c.type_inv.bytes (2 * i + 1)).fits) in
+    load_turn i b _ (omega arith) c.loop-i-test.true c.loop-i.invariant (back16 _ c.from_be_bytes.type_inv ∙ word)
 
 pub returns : goal.returns
 unfolding load_call loaded
 returns c =
-    let a = c.args in
-    let n = c.min-n.ensures in
-    let e : c.loop-i.i ≡ c.min-n.result = omega arith in
-    record { answer = n; left = c.loop-i.invariant ∙ ap (λ (k : ℕ). (loaded k a.bytes.now a.samples.now).left) (e ∙ n) }
+    let b = c.args.bytes.now in
+    let s = c.args.samples.now in
+    let n = c.min-n.result in
+    let room : n ≡ min (length b / 2) (length s) = c.min-n.ensures ∙ ap (λ (k : ℕ). min k (length s)) c.as_chunks.ensures.front_len in
+    let done : c.loop-i.i ≡ n = omega (arith, room, length-take n s) in
+    let none : drop n (take n s) ≡ [] = drop_of_length-le (take n s) (omega (arith, length-take n s)) in
+    let items : c.loop-i.x-items ≡ pcm_samples (take (2 * n) b) = rw (done, none, append-nil) at c.loop-i.invariant in
+    record { answer = room; left = rw items (ap (λ (k : ℕ). (loaded k b s).left) room) }
