@@ -5,9 +5,6 @@ use Rattle.laws.specs.One.{LeavesOne, equation, call}
 use Rattle.big_endian.proofs as big_endian
 use Rattle.big_endian.specs.contracts as contracts
 
-pub byte : LeavesOne contracts.byte.ended (λ M 𝓤. contracts.byte.clauses) big_endian.byte.Symbol.name big_endian.byte.Symbol.code
-byte = equation (λ κs a l m. refl) (λ M. big_endian.byte.Met.met)
-
 pub two_at : LeavesOne contracts.two_at.ended (λ M 𝓤. contracts.two_at.clauses) big_endian.two_at.Symbol.name big_endian.two_at.Symbol.code
 two_at = equation (λ κs a l m. refl) (λ M. big_endian.two_at.Met.met)
 

@@ -4,5 +4,5 @@
 mod numbers;
 mod samples;
 
-pub use numbers::{byte, four_at, two_at};
+pub use numbers::{four_at, two_at};
 pub use samples::{load, store};

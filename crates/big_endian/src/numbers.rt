@@ -1,13 +1,6 @@
 // Numbers from 0 up in two and in four bytes, the high byte first. A place beyond the end reads as 0, so that reading asks nothing.
-ghost use Rattle.std.specs.Prelude.{◌≡◌, ◌%◌, get_or};
+ghost use Rattle.std.specs.Prelude.{◌≡◌, get_or};
 ghost use Rattle.big_endian.specs.Numbers.{two_at, four_at};
-
-// The last byte of a number.
-pub fn byte(x: u32) -> u8
-    ensures { result ≡ x % 256 }
-{
-    (x % 256) as u8
-}
 
 // The byte at a place.
 fn byte_at(b: &[u8], i: usize) -> u8
