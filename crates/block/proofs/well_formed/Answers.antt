@@ -21,8 +21,11 @@ value c = elim c.if-allowed.branch [
 -- the octets end before the check
 within : (c : Joined-allowed) → c.if-allowed.value ≡ true → 12 + c.from-count.result ≤ 510
 within c e =
-    let h = (and-eq-true_iff _ _).0 (sym (value c) ∙ e) in
-    omega (arith, (allowed_bounds _ _ h.0).count_most)
+    let b = c.args.b.now in
+    let mode = get_or b 8 0 in
+    let n = c.from-count.result in
+    let h = (and-eq-true_iff (allowed mode n) (eqb (get_or b 9 0) 0)).0 (sym (value c) ∙ e) in
+    omega (arith, (allowed_bounds mode n h.0).count_most)
 
 -- and then the zeros decide
 decided : (b : List ℕ) (n : ℕ) (v : Bool) → n ≡ two_at b 10 → v ≡ (allowed (get_or b 8 0) n && eqb (get_or b 9 0) 0)
