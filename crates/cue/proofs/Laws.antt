@@ -2,8 +2,7 @@
 -- Assumes nothing.
 use mathlib.Core.Path.{◌≡◌, sym, ap, ◌∙◌}
 use mathlib.Core.List.{List, ◌++◌}
-use Prim.Native.Nat.{ℕ, zero, suc, ◌+◌, ◌*◌, ◌/◌, ◌%◌, ◌-◌, ◌^◌, ◌≤◌, ◌<◌}
-use native.Mathlib.Nat.{div-add-mod', mul-le-mul_left}
+use Prim.Native.Nat.{ℕ, suc, ◌+◌, ◌*◌, ◌/◌, ◌-◌, ◌^◌, ◌≤◌, ◌<◌}
 use native.Mathlib.Omega.{arith}
 use lib.ListN.{length, take, drop, get_or, set, drop_of_length-le}
 use lib.Seq.{drop-drop, drop-set-lt}
@@ -39,25 +38,6 @@ gather_turn i n w b from h l e =
 pub gather_end : (i n m : ℕ) (b from : List ℕ) → length b ≤ i → n ≤ i → take i b ++ gathered (n - i) (drop m from) ≡ b
 unfolding gathered
 gather_end i n m b from h l = let z : n - i ≡ 0 = omega arith in put_all b _ i h (rw z)
-
--- the bits of octet i end before those of all n do
-pub inside : (k i n : ℕ) → i < n → k * i + k ≤ k * n
-inside k i n h = omega (arith, mul-le-mul_left k h)
-
--- an octet stays one
-small : (k o r : ℕ) → k ≤ 2 → o < 256 → r < 2 ^ k → o - o % 2 ^ k + r < 256
-small zero o r h l s = omega arith
-small (suc zero) o r h l s = omega arith
-small (suc (suc zero)) o r h l s = omega arith
-small (suc (suc (suc k))) o r h l s = absurd (omega arith)
-
-module _ (k : ℕ) {b : ℕ} (e : b ≡ 2 ^ k) (o r : ℕ) where
-  pub octet_fits : k ≤ 2 → o < 256 → r < 2 ^ k → o - o % b + r < 256
-  octet_fits = rw e (small k o r)
-
-  -- its last bits give way
-  pub octet_carries : {v : ℕ} → r ≡ v → o - o % b + r ≡ o / 2 ^ k * 2 ^ k + v
-  octet_carries f = rw (f, ← e) (omega (arith, div-add-mod' o b))
 
 -- a data call's outcome: with number 0 the new content, else the old
 module _ {m : Moved} {number : ℕ} (e : m ≡ record { number = number; index = 0 }) (old new : List ℕ) where

@@ -9,21 +9,13 @@ ghost use Rattle.cue.specs.Fills.{Fills};
 
 use g722::Refusal;
 
-// 2 to the power n.
-fn power(n: usize) -> u8
-    requires { n < 8 }
-    ensures { (result ≡ 2 ^ n) × (0 < result) }
-{
-    let powers: [u8; 8] = [1, 2, 4, 8, 16, 32, 64, 128];
-    powers[n]
-}
-
 // Bit n of all the bits that xs give, each its last k, highest first.
+#[tactic(auto, using(crate::specs::Bits::bit_of))]
 fn bit(xs: &[u8], k: usize, n: usize) -> u8
     requires { (0 < k) × (k ≤ 8) × (n < k * length xs.now) }
     ensures { (result ≡ get_or (bits_of k xs.now) n 0) × (result < 2) }
 {
-    xs[n / k] / power(k - 1 - n % k) % 2
+    (xs[n / k] >> (k - 1 - n % k)) % 2
 }
 
 // The number that w of these bits spell, from bit n on.
@@ -32,8 +24,8 @@ fn spell(xs: &[u8], k: usize, n: usize, w: usize) -> u8
     ensures { (result ≡ spelt 0 (take w (drop n (bits_of k xs.now)))) × (result < 2 ^ w) }
 {
     let mut value = 0;
-    for i in 0..w {
-        value = value * 2 + bit(xs, k, n + i);
+    for at in n..n + w {
+        value = value * 2 + bit(xs, k, at);
     }
     value
 }
@@ -43,11 +35,8 @@ fn fill(octets: &mut [u8], bytes: &[u8], k: usize)
     requires { Fills k (length octets.old) (length bytes.now) }
     ensures { octets.new ≡ carrying k octets.old (bits_of 8 bytes.now) }
 {
-    let base = power(k);
-    for i in 0..octets.len() {
-        let old = octets[i];
-        let lost = old % base;
-        octets[i] = old - lost + spell(bytes, 8, k * i, k);
+    for (i, octet) in octets.iter_mut().enumerate() {
+        *octet = (*octet >> k << k) + spell(bytes, 8, k * i, k);
     }
 }
 
@@ -56,8 +45,8 @@ fn gather(octets: &[u8], bytes: &mut [u8], k: usize)
     requires { Fills k (length octets.now) (length bytes.old) }
     ensures { bytes.new ≡ gathered (length bytes.old) (bits_of k octets.now) }
 {
-    for j in 0..bytes.len() {
-        bytes[j] = spell(octets, k, 8 * j, 8);
+    for (j, byte) in bytes.iter_mut().enumerate() {
+        *byte = spell(octets, k, 8 * j, 8);
     }
 }
 
