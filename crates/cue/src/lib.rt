@@ -1,10 +1,11 @@
 // The cue channel: data bytes put into the last bits of octets, and taken out of them, highest bit first.
 #![tactic(auto)]
 
-ghost use Rattle.std.specs.Prelude.{◌≡◌, ◌+◌, ◌*◌, ◌^◌, ◌≤◌, ◌<◌, length, take, drop, get_or};
+ghost use Rattle.std.specs.Prelude.{◌≡◌, ◌+◌, ◌*◌, ◌^◌, ◌≤◌, ◌<◌, length, take, drop, get_or, IfOk};
+ghost use Rattle.std.specs.Result.{result_map_both};
 ghost use Rattle.laws.specs.Outcome.{Does};
 ghost use Rattle.g722.specs.Answers.{moved};
-ghost use Rattle.g722.specs.Cue.{bits_of, spelt, gathered, carrying, data_number, put_call, take_call};
+ghost use Rattle.g722.specs.Cue.{bits_of, spelt, gathered, carrying, given_up, data_number, put_call, take_call};
 ghost use Rattle.cue.specs.Fills.{Fills};
 
 use g722::Refusal;
@@ -50,9 +51,11 @@ fn gather(octets: &[u8], bytes: &mut [u8], k: usize)
     }
 }
 
-// Whether data fills octets in a mode. More bytes than octets never fill them: they are refused before 8 * bytes is taken, which then fits.
-fn fits(mode: u8, octets: usize, bytes: usize) -> Result<(), Refusal>
-    ensures { moved result ≡ record { number = data_number mode octets bytes; index = 0 } }
+// How many bits of each octet data takes in a mode, where it fills the octets by them. More bytes than octets never do: they are refused
+// before 8 * bytes is taken, which then fits.
+fn width(mode: u8, octets: usize, bytes: usize) -> Result<usize, Refusal>
+    ensures said { moved (result_map_both (λ k. tt) (λ r. r) result) ≡ record { number = data_number mode octets bytes; index = 0 } }
+    ensures given { IfOk result (λ k. k ≡ given_up mode) }
 {
     if 3 < mode {
         return Err(Refusal::Mode);
@@ -60,18 +63,19 @@ fn fits(mode: u8, octets: usize, bytes: usize) -> Result<(), Refusal>
     if mode < 2 {
         return Err(Refusal::DataChannel);
     }
-    if 8000 < octets || octets < bytes || 8 * bytes != (mode - 1) as usize * octets {
+    let k = usize::from(mode - 1);
+    if 8000 < octets || octets < bytes || 8 * bytes != k * octets {
         return Err(Refusal::Length);
     }
-    Ok(())
+    Ok(k)
 }
 
 // Puts data bytes into octets, where the mode and the lengths allow it.
 pub fn put(mode: u8, octets: &mut [u8], bytes: &[u8]) -> Result<(), Refusal>
     ensures { Does (put_call mode octets.old bytes.now) (moved result) octets.new }
 {
-    fits(mode, octets.len(), bytes.len())?;
-    fill(octets, bytes, (mode - 1) as usize);
+    let k = width(mode, octets.len(), bytes.len())?;
+    fill(octets, bytes, k);
     Ok(())
 }
 
@@ -79,7 +83,7 @@ pub fn put(mode: u8, octets: &mut [u8], bytes: &[u8]) -> Result<(), Refusal>
 pub fn take(mode: u8, octets: &[u8], bytes: &mut [u8]) -> Result<(), Refusal>
     ensures { Does (take_call mode octets.now bytes.old) (moved result) bytes.new }
 {
-    fits(mode, octets.len(), bytes.len())?;
-    gather(octets, bytes, (mode - 1) as usize);
+    let k = width(mode, octets.len(), bytes.len())?;
+    gather(octets, bytes, k);
     Ok(())
 }
