@@ -37,10 +37,6 @@ takes p items places = not (ltb 160 places) && eqb items places && good_poles p
 abbrev pub run_of : {A B : Type 0} → (Band → A → B) → (Band → A → Band) → Band → List A → Outcome Band (List B)
 run_of out next s xs = record { answer = last next s xs; left = outs out next s xs }
 
--- what is no such block is given back as it came
-abbrev pub block_of : {A B : Type 0} → (Band → A → B) → (Band → A → Band) → Band → List A → List B → Outcome Band (List B)
-block_of out next s xs ys = cond (takes s.poles (length xs) (length ys)) (run_of out next s xs) (record { answer = s; left = ys })
-
 -- what it makes of one
 abbrev pub coded_run : Bool → Band → List ℤ → Outcome Band (List ℕ)
 coded_run high s x = record { answer = last (coded_next high) s x; left = outs (word_of high) (coded_next high) s x }
@@ -49,11 +45,18 @@ abbrev pub heard_run : Bool → ℕ → Band → List ℕ → Outcome Band (List
 heard_run high mode s octets =
     record { answer = last (heard_next high) s octets; left = outs (signal_of high mode) (heard_next high) s octets }
 
+-- what is no such block is given back as it came
 unfoldable pub coded_block : Bool → Band → List ℤ → List ℕ → Outcome Band (List ℕ)
-coded_block high s x words = block_of (word_of high) (coded_next high) s x words
+coded_block high s x words =
+    cond (takes s.poles (length x) (length words))
+    (coded_run high s x)
+    (record { answer = s; left = words })
 
 unfoldable pub heard_block : Bool → ℕ → Band → List ℕ → List ℤ → Outcome Band (List ℤ)
-heard_block high mode s octets signals = block_of (signal_of high mode) (heard_next high) s octets signals
+heard_block high mode s octets signals =
+    cond (takes s.poles (length octets) (length signals))
+    (heard_run high mode s octets)
+    (record { answer = s; left = signals })
 
 -- ---- a block that is taken
 

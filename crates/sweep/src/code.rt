@@ -4,10 +4,10 @@ ghost use Rattle.laws.specs.Outcome.{Does};
 ghost use Rattle.g722.specs.Quantise.{quantl, quanth};
 ghost use Rattle.sweep.specs.Block.{word_of, coded_next, coded_block};
 
-use crate::Turned;
 use crate::lookup::Tables;
 use crate::run::{End, run};
 use crate::turn::predic;
+use crate::{Turned, takes};
 use arith::sub;
 use g722::Band;
 use idle::{Recursive, Scales};
@@ -49,6 +49,9 @@ impl End for Coder {
 pub fn code_band(high: bool, s: Band, x: &[i16], words: &mut [u8]) -> Band
     ensures { Does (coded_block high s x.now words.old) result words.new }
 {
+    if !takes(s.poles, x.len(), words.len()) {
+        return s;
+    }
     let coder = Coder {
         tables: Tables::of(high),
     };

@@ -5,10 +5,10 @@ ghost use Rattle.at_hand.specs.Signed.{outputs_of};
 ghost use Rattle.sweep.specs.Block.{signal_of, heard_next, heard_block};
 ghost use Rattle.sweep.specs.Octet.{word_in};
 
-use crate::Turned;
 use crate::lookup::Tables;
 use crate::run::{End, run};
 use crate::turn::{inverse, predic};
+use crate::{Turned, takes};
 use arith::clamp;
 use at_hand::outputs;
 use g722::Band;
@@ -58,6 +58,9 @@ impl End for Hearer {
 pub fn hear_band(high: bool, mode: u8, s: Band, octets: &[u8], signals: &mut [i16]) -> Band
     ensures { Does (heard_block high mode s octets.now signals.old) result signals.new }
 {
+    if !takes(s.poles, octets.len(), signals.len()) {
+        return s;
+    }
     let hearer = Hearer {
         tables: Tables::of(high),
         mode,

@@ -1,17 +1,18 @@
 // The loop over a block. Coder and decoder differ in what a turn takes and gives: each is an end.
-ghost use Rattle.std.specs.Prelude.{◌^◌, ◌<◌};
+ghost use Rattle.std.specs.Prelude.{◌≡◌, true, ◌^◌, ◌≤◌, ◌<◌, length};
 ghost use Rattle.std.specs.Int.Signed.{mag};
 ghost use Rattle.laws.specs.Outcome.{Does};
+ghost use Rattle.g722.specs.Records.{good_poles};
 ghost use Rattle.g722.specs.declared.Band.{Band};
 ghost use Rattle.idle.specs.Recursive.{poles_of};
 ghost use Rattle.idle.specs.Factors.{factors_of};
-ghost use Rattle.sweep.specs.Block.{block_of};
+ghost use Rattle.sweep.specs.Block.{run_of};
 ghost use Rattle.sweep.specs.Turn.{ByTurn};
 
+use crate::Turned;
 use crate::factors::{factors, scales};
 use crate::poles::{narrowed, widened};
 use crate::rows::Rows;
-use crate::{Turned, takes};
 use g722::Band;
 use idle::{Recursive, Scales};
 
@@ -31,13 +32,13 @@ pub(crate) trait End {
         ensures { ByTurn (out self.now) (next self.now) (poles_of p) (factors_of f) sz x result };
 }
 
-// A block's items to what comes of them, and the band after it. What is no block is given back as it came.
+// A block that is taken.
 pub(crate) fn run<E: End>(end: &E, s: Band, xs: &[E::In], ys: &mut [E::Out]) -> Band
-    ensures { Does (block_of (E.out end.now) (E.next end.now) s xs.now ys.old) result ys.new }
+    requires ys_len_bound { length ys.old ≤ 160 }
+    requires xs_len { length xs.now ≡ length ys.old }
+    requires poles_value { good_poles s.poles ≡ true }
+    ensures { Does (run_of (E.out end.now) (E.next end.now) s xs.now) result ys.new }
 {
-    if !takes(s.poles, xs.len(), ys.len()) {
-        return s;
-    }
     let mut rows = Rows::of(s.zeros);
     let mut p = widened(s.poles);
     let mut f = scales(s.factors);

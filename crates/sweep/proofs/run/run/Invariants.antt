@@ -10,8 +10,6 @@ abbrev pub invariant-loop-i : goal.invariant-loop-i
 invariant-loop-i g l =
     record {
       within : l.i ≤ length l.fn.ys;
-      room : length l.fn.ys ≤ 160;
-      each : length l.fn.xs ≡ length l.fn.ys;
       turns : l.rows.1 ≡ l.i;
       going : SoFar (g.E.End.out l.fn.end) (g.E.End.next l.fn.end) l.fn.s l.fn.xs l.fn.ys
           (band_of l.rows.0 (poles_of l.p) (factors_of l.f)) l.ys l.i;
