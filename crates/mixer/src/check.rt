@@ -8,6 +8,7 @@ use decoder::good_decoder;
 use g722::{Coder, Decoder};
 
 // Whether ports are not 2 to 8.
+#[tactic(auto, unfolding(conference::specs::Tick::unseated))]
 pub(crate) fn unseated(ports: u8) -> bool
     ensures { result ≡ unseated ports }
 {
@@ -15,25 +16,18 @@ pub(crate) fn unseated(ports: u8) -> bool
 }
 
 // Whether modes, octets or room are not one for each port.
+#[tactic(auto, unfolding(conference::specs::Tick::uneven))]
 pub(crate) fn uneven(ports: usize, modes: usize, octets: usize, room: usize) -> bool
     ensures { result ≡ uneven ports modes octets room }
 {
-    if modes != ports {
-        return true;
-    }
-    octets != ports || room != ports
+    modes != ports || octets != ports || room != ports
 }
 
 // Whether a told mode is above 3.
 pub(crate) fn any_above(modes: &[u8]) -> bool
     ensures { result ≡ any_above modes.now }
 {
-    for mode in modes {
-        if 3 < *mode {
-            return true;
-        }
-    }
-    false
+    modes.iter().any(|mode| 3 < *mode)
 }
 
 // Whether the records of a port keep their bounds.
@@ -49,10 +43,8 @@ pub(crate) fn good_ports(desk: Desk) -> bool
     ensures { result ≡ good_ports desk }
 {
     let n = (desk.ports as usize).min(8);
-    for (coder, decoder) in desk.coders[..n].iter().zip(&desk.decoders[..n]) {
-        if !good_port(coder, decoder) {
-            return false;
-        }
-    }
-    true
+    desk.coders[..n]
+        .iter()
+        .zip(&desk.decoders[..n])
+        .all(|(coder, decoder)| good_port(coder, decoder))
 }

@@ -14,7 +14,6 @@ ghost use Rattle.mixer.specs.Run.{hear_run, send_run};
 use check::{any_above, good_ports, uneven, unseated};
 use conference::Desk;
 use g722::{Accepted, Coder, Decoder, Refusal};
-use place::updated;
 use port::{Signals, heard, sent};
 use sums::{others, total};
 
@@ -41,7 +40,7 @@ pub fn reset(ports: u8) -> Result<Desk, Refusal>
 
 // Every port's octet through its decoder's first step. Each record is updated where it stands.
 fn hear_all(
-    decoders: [Decoder; 8],
+    mut decoders: [Decoder; 8],
     modes: &[u8],
     octets: &[u8],
     low: &mut [i16],
@@ -53,18 +52,17 @@ fn hear_all(
     requires high_len { length high.old ≡ length octets.now }
     ensures { Does (hear_run decoders modes.now octets.now) result (low.new, high.new) }
 {
-    let mut t = decoders;
-    for i in 0..octets.len() {
-        let Signals { rl, rh, next } = heard(t[i], modes[i], octets[i]);
+    for (i, octet) in octets.iter().enumerate() {
+        let Signals { rl, rh, next } = heard(decoders[i], modes[i], *octet);
         low[i] = rl;
         high[i] = rh;
-        t = updated(t, i, next);
+        decoders[i] = next;
     }
-    t
+    decoders
 }
 
 // Every port's octet out of what the others gave: all signals of a band are summed once, and each port's own is taken off.
-fn send_all(coders: [Coder; 8], low: &[i16], high: &[i16], room: &mut [u8]) -> Mixed
+fn send_all(mut coders: [Coder; 8], low: &[i16], high: &[i16], room: &mut [u8]) -> Mixed
     requires low_len_bound { length low.now ≤ 8 }
     requires high_len { length high.now ≡ length low.now }
     requires room_len { length room.old ≡ length low.now }
@@ -72,15 +70,18 @@ fn send_all(coders: [Coder; 8], low: &[i16], high: &[i16], room: &mut [u8]) -> M
 {
     let all_low = total(low);
     let all_high = total(high);
-    let mut t = coders;
-    let mut limited: u32 = 0;
-    for i in 0..room.len() {
-        let s = sent(t[i], others(all_low, low[i]), others(all_high, high[i]));
-        room[i] = s.octet;
-        t[i] = s.next;
+    let mut limited = 0;
+    for (i, octet) in room.iter_mut().enumerate() {
+        let s = sent(
+            coders[i],
+            others(all_low, low[i]),
+            others(all_high, high[i]),
+        );
+        *octet = s.octet;
+        coders[i] = s.next;
         limited += s.limited;
     }
-    Mixed { limited, coders: t }
+    Mixed { limited, coders }
 }
 
 // All are heard, and then all are sent to, with lent room for the signals on their way.

@@ -3,7 +3,7 @@ ghost use Rattle.std.specs.Prelude.{◌≡◌, ◌≤◌, nat_abs, ◌-ℤ◌, l
 ghost use Rattle.g722.specs.Arithmetic.{limited};
 ghost use Rattle.conference.specs.Sums.{sum_of};
 
-use arith::{limit, wide};
+use arith::limit;
 use g722::Limited;
 
 // The sum of all.
@@ -13,7 +13,7 @@ pub(crate) fn total(signals: &[i16]) -> i32
 {
     let mut sum = 0;
     for signal in signals {
-        sum += wide(*signal);
+        sum += i32::from(*signal);
     }
     sum
 }
@@ -23,5 +23,5 @@ pub(crate) fn others(all: i32, own: i16) -> Limited
     requires { nat_abs all ≤ 262144 }
     ensures { result ≡ limited (all -ℤ own) }
 {
-    limit(all - wide(own))
+    limit(all - i32::from(own))
 }

@@ -32,7 +32,7 @@ loop-i-preserved c =
     let x = rl_of_lem a.decoders a.modes.now a.octets.now i _ c.heard-rl.ensures stood inside given told in
     let y = rh_of_lem a.decoders a.modes.now a.octets.now i _ c.heard-rl.ensures stood inside given in
     record {
-      table = rw c.updated-t.ensures (one_more _ _ _ v.table _ 0 inside given (λ j. (c.heard-rl.ensures j).next));
+      table = one_more _ _ _ v.table _ 0 inside given (λ j. (c.heard-rl.ensures j).next);
       lows = fill _ _ v.lows (pos 0) (rw low-long given) given (back16 c.heard-rl.result.rl (search rules) ∙ x);
       highs = fill _ _ v.highs (pos 0) (rw high-long given) given (back16 c.heard-rl.result.rh (search rules) ∙ y);
     }

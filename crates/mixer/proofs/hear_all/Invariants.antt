@@ -9,7 +9,7 @@ abbrev pub invariant-loop-i : goal.invariant-loop-i
 invariant-loop-i l =
     let f = l.fn in
     record {
-      table : Upto decoder_from f.decoders f.octets l.t l.i;
+      table : Upto decoder_from f.decoders f.octets l.decoders l.i;
       lows : Filled (rls_from f.decoders f.modes f.octets) (length f.octets) l.low l.i;
       highs : Filled (rhs_from f.decoders f.octets) (length f.octets) l.high l.i;
     }

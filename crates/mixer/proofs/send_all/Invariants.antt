@@ -12,7 +12,7 @@ abbrev pub invariant-loop-i : goal.invariant-loop-i
 invariant-loop-i l =
     let f = l.fn in
     record {
-      table : Upto coder_to f.coders (heards f.low f.high) l.t l.i;
+      table : Upto coder_to f.coders (heards f.low f.high) l.coders l.i;
       octets : Filled (zip_with octet_to f.coders (heards f.low f.high)) (length f.low) l.room l.i;
       count : Counted l.limited (sums_left f.low f.high l.i) (sums_limited f.low f.high) l.i;
     }

@@ -34,10 +34,10 @@ loop-signal-preserved c =
     let signal : ℤ = get_or signals i (pos 0) in
     let inside : i < length signals = omega arith in
     let small : SFits w16 signal = search rules in
-    let read : to_z w32 (of_z w32 c.wide-sum.result) ≡ signal = widened c.wide-sum.type_inv c.wide-sum.ensures small in
+    let read : to_z w32 (of_z w32 c.from-sum.result) ≡ signal = widened c.from-sum.type_inv c.from-sum.ensures small in
     let size : nat_abs (sum +ℤ signal) ≤ 32768 * (i + 1) = omega (arith, abs_add sum signal, abs16 small, l.invariant.small) in
     let fits : SFits w32 (sum +ℤ signal) = fits_abs (omega (arith, size)) in
-    let summed : to_z w32 (of_z w32 (sum +ℤ to_z w32 (of_z w32 c.wide-sum.result))) ≡ sum +ℤ signal =
+    let summed : to_z w32 (of_z w32 (sum +ℤ to_z w32 (of_z w32 c.from-sum.result))) ≡ sum +ℤ signal =
     ap (λ (z : ℤ). to_z w32 (of_z w32 (sum +ℤ z))) read ∙ to_z-of_z fits in
     record {
       whole = ap (λ (z : ℤ). z +ℤ sum_of (drop (i + 1) signals)) summed ∙ turn sum signals i inside ∙ l.invariant.whole;
