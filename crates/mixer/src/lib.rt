@@ -25,6 +25,7 @@ struct Mixed {
 }
 
 // A desk of so many ports, or 9.
+#[tactic(auto, unfolding(conference::specs::Tick::reset_call, conference::specs::Tick::reset_desk))]
 pub fn reset(ports: u8) -> Result<Desk, Refusal>
     ensures { reset_as (reset_desk ports) result ≡ reset_call ports }
 {
@@ -127,6 +128,7 @@ fn run(desk: Desk, modes: &[u8], octets: &[u8], room: &mut [u8]) -> Accepted<Des
 }
 
 // A tick: an octet and a told mode from every port, and room for an octet to each.
+#[tactic(auto, unfolding(conference::specs::Tick::tick_call, conference::specs::Tick::not_ticked, conference::specs::Tick::ticked))]
 pub fn tick(
     desk: Desk,
     modes: &[u8],
