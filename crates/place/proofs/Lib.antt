@@ -1,2 +1,0 @@
--- What this crate proves of its functions together.
-pub mod Unique
