@@ -4,9 +4,6 @@ use Rattle.laws.specs.One.{LeavesOne, equation}
 use Rattle.arith.proofs as arith
 use Rattle.arith.specs.contracts as contracts
 
-pub wide : LeavesOne contracts.wide.ended (λ M 𝓤. contracts.wide.clauses) arith.wide.Symbol.name arith.wide.Symbol.code
-wide = equation (λ κs a l m. refl) (λ M. arith.wide.Met.met)
-
 pub fit : LeavesOne contracts.fit.ended (λ M 𝓤. contracts.fit.clauses) arith.fit.Symbol.name arith.fit.Symbol.code
 fit = equation (λ κs a l m. refl) (λ M. arith.fit.Met.met)
 

@@ -8,13 +8,6 @@ ghost use Rattle.g722.specs.Arithmetic.{add, sub, mul, same_sign, within, limite
 
 use g722::Limited;
 
-// The same number in 32 bits.
-pub fn wide(x: i16) -> i32
-    ensures { result ≡ x }
-{
-    i32::from(x)
-}
-
 // x, kept between lo and hi.
 pub fn fit(x: i32, lo: i32, hi: i32) -> i32
     ensures { result ≡ clamp lo hi x }
