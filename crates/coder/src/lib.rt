@@ -3,7 +3,6 @@
 #![tactic(auto)]
 
 mod bands;
-mod kept;
 
 ghost use Rattle.std.specs.Prelude.{◌≡◌, true, ◌*◌, ◌≤◌, length};
 ghost use Rattle.laws.specs.Outcome.{Does};
@@ -15,7 +14,6 @@ ghost use Rattle.g722.specs.Coding.{coded, code_call};
 use bands::bands_all;
 use bounds::{all_in_range, first_bad, good_high, good_low, misfit, reset_band};
 use g722::{Accepted, Band, Coder, Refusal};
-use kept::{Kept, given};
 use mirror::split;
 
 // Both bands.
@@ -23,6 +21,13 @@ use mirror::split;
 pub struct BothBands {
     pub low: Band,
     pub high: Band,
+}
+
+// A record that keeps its bounds, as every block leaves it.
+#[derive(Clone, Copy)]
+struct Kept {
+    coder: Coder,
+    ghost good: { good_coder coder ≡ true },
 }
 
 // The record from which both ends start.
@@ -129,5 +134,7 @@ pub fn code(c: Coder, samples: &[i16], octets: &mut [u8]) -> Result<Accepted<Cod
     if !all_in_range(samples) {
         return Err(Refusal::Sample(first_bad(samples)));
     }
-    Ok(given(run(Kept { coder: c }, samples, octets)))
+    let Accepted { limited, next } = run(Kept { coder: c }, samples, octets);
+    let next = next.coder;
+    Ok(Accepted { limited, next })
 }

@@ -11,11 +11,7 @@ pub(crate) fn total(signals: &[i16]) -> i32
     requires { length signals.now ≤ 8 }
     ensures { (result ≡ sum_of signals.now) × (nat_abs result ≤ 262144) }
 {
-    let mut sum = 0;
-    for signal in signals {
-        sum += i32::from(*signal);
-    }
-    sum
+    signals.iter().map(|signal| i32::from(*signal)).sum()
 }
 
 // All but a port's own, limited.

@@ -1,14 +1,12 @@
 -- `coder::code` meets its contract: a sample out of range is found, and a call that nothing refuses is its run.
-use Rattle.std.proofs.Common.{◌≡◌, sym, ap, ◌∙◌, arith, true, false, List, ◌≤◌, length}
+use Rattle.std.proofs.Common.{◌≡◌, sym, ◌∙◌, arith, true, false, List, ◌≤◌, length}
 use lib.IntN.{ℤ}
 use Prim.Native.Nat.{ℕ}
 use borrow.Author.Tests.{le-ltb}
 use Rattle.laws.specs.Outcome.{does}
-use Rattle.facts.specs.Blocks.{coder_done}
 use Rattle.facts.specs.Range.{none_bad, some_bad}
 use Rattle.g722.specs.Records.{good_coder}
 use Rattle.g722.specs.Coding.{first_bad, misfit, not_coded, coded, code_call}
-use Rattle.g722.specs.declared.Accepted.{Accepted}
 use Rattle.g722.specs.declared.Coder.{Coder}
 use Rattle.coder.proofs.code.Goals as goal
 
@@ -26,5 +24,4 @@ returns c =
     let fit = sym c.misfit.ensures ∙ c.if-misfit.false in
     let good = sym c.good_coder.ensures ∙ c.if-not-good_coder.false in
     let clean = none_bad _ (sym c.all_in_range.ensures ∙ c.if-not-all_in_range.false) in
-    does (accepted _ _ _ fit good clean) (ap (λ (r : Accepted Coder). coder_done r.limited r.next) c.given.ensures ∙ c.run.ensures.answer)
-    c.run.ensures.left
+    does (accepted _ _ _ fit good clean) c.run-limited.ensures.answer c.run-limited.ensures.left
