@@ -1,4 +1,4 @@
--- Laws of the loops, on plain values: a row of which the first places are stored, and lists of what is left to store.
+-- Laws of the loops, on plain values: rows that are laid out in two parts, lists of what is left to store, and what was limited of them.
 -- Assumes nothing.
 use mathlib.Core.Path.{◌≡◌, refl, sym, ap, ◌∙◌}
 use mathlib.Core.Bool.{cond}
@@ -20,8 +20,9 @@ use Rattle.facts.specs.Overload.{Counted, none_counted, two_counted}
 use Rattle.g722.specs.Arithmetic.{limited, changes, overloads}
 use Rattle.mirror.specs.Rows.{nth, Holds, from, in_turn}
 
--- ---- one list behind another
+-- ---- a row that is laid out in two parts
 
+-- a number of two lists, one behind the other
 pub either : (p x : List ℤ) (n k : ℕ) → length p ≡ n → nth (p ++ x) k ≡ cond (ltb k n) (nth p k) (nth x (k - n))
 either p x n k l =
     by_test (ltb k n) (λ e. rw e (get_or-append p x (pos 0) k (omega (arith, ltb-true k n e))))
@@ -29,6 +30,7 @@ either p x n k l =
     let h : k ≡ length p + (k - n) = omega (arith, ltb-false k n e) in
     rw e (ap (nth (p ++ x)) h ∙ get_or-append-add p x (k - n) (pos 0)))
 
+-- and of f i, f (i + 1), ..
 from_long : (f : ℕ → ℤ) (i n : ℕ) → length (from f i n) ≡ n
 unfolding from
 from_long f i zero = refl
@@ -43,7 +45,7 @@ from_at f i (suc n) (suc k) h = let e : suc i + k ≡ i + suc k = omega arith in
 stored_at : (f : ℕ → ℤ) {x : List ℤ} {n k : ℕ} → x ≡ from f 0 n → k < n → nth x k ≡ f k
 stored_at f {n = n} {k = k} e h = let z : 0 + k ≡ k = omega arith in ap (λ (l : List ℤ). nth l k) e ∙ from_at f 0 n k h ∙ ap f z
 
--- a row on which eleven numbers are stored, and then n behind them
+-- so of a row on which eleven numbers are stored, and then n behind them
 module _ (f g : ℕ → ℤ) (row : List ℤ) {a b : List ℤ} {n r : ℕ} (e : length row ≡ 171) (few : n ≤ 160) (r≡ : r ≡ n)
     (a≡ : a ≡ from f 0 (length (take 11 row))) (b≡ : b ≡ from g 0 (length (take r (drop 11 (put_mid 0 11 row a))))) where
   abbrev first : List ℤ
