@@ -12,7 +12,7 @@ use g722::{Coder, Decoder};
 pub(crate) fn unseated(ports: u8) -> bool
     ensures { result ≡ unseated ports }
 {
-    ports < 2 || 8 < ports
+    !(2..=8).contains(&ports)
 }
 
 // Whether modes, octets or room are not one for each port.
@@ -42,7 +42,7 @@ fn good_port(coder: &Coder, decoder: &Decoder) -> bool
 pub(crate) fn good_ports(desk: Desk) -> bool
     ensures { result ≡ good_ports desk }
 {
-    let n = (desk.ports as usize).min(8);
+    let n = usize::from(desk.ports).min(8);
     desk.coders[..n]
         .iter()
         .zip(&desk.decoders[..n])

@@ -138,7 +138,12 @@ pub fn tick(
     ensures { Does (tick_call desk modes.now octets.now room.old) (answered desk result) room.new }
 {
     let no_desk = unseated(desk.ports);
-    let unfit = uneven(desk.ports as usize, modes.len(), octets.len(), room.len());
+    let unfit = uneven(
+        usize::from(desk.ports),
+        modes.len(),
+        octets.len(),
+        room.len(),
+    );
     if no_desk {
         Err(Refusal::Ports)
     } else if unfit {

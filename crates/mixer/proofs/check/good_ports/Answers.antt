@@ -37,7 +37,7 @@ returns c =
     let cs = c.args.desk.coders in
     let ds = c.args.desk.decoders in
     let n = min c.args.desk.ports 8 in
-    let m : c.min-n.result ≡ n = c.min-n.ensures in
+    let m : c.min-n.result ≡ n = c.min-n.ensures ∙ ap (λ (p : ℕ). min p 8) c.from.ensures in
     let both = YieldsList-from_zip {s = c.zip.result} (YieldsList-from_slice (take n cs) (cc)) (YieldsList-from_slice (take n ds) (cc)) in
     all_from_yields_List good_port c.all.new.self _ _ c.all.ensures.ran both (λ x b q k. search (rules, tests))
     ∙ defined good_port (pairs (take n cs) (take n ds))
