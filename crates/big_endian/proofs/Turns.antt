@@ -51,6 +51,7 @@ module _ (i : ℕ) (b : List ℕ) (s : List ℤ) (h : 2 * i + 1 < length b) (k :
       → set now i v ≡ (loaded (i + 1) b s).left
   load_turn e f = rw (e, f, add-one i) (load_next i b s h k)
 
-  pub store_turn : {now : List ℕ} {vs : List ℕ} → now ≡ (stored i s b).left → vs ≡ high_of (get_or s i (pos 0)) ∷ low_of (get_or s i (pos 0)) ∷ []
+  pub store_turn : {now vs : List ℕ} → now ≡ (stored i s b).left
+      → vs ≡ high_of (get_or s i (pos 0)) ∷ low_of (get_or s i (pos 0)) ∷ []
       → put_mid (2 * i) (2 * i + 2 - 2 * i) now vs ≡ (stored (i + 1) s b).left
   store_turn e f = let g : 2 * i + 2 - 2 * i ≡ 2 = omega arith in rw (e, f, g, add-one i) (store_next i s b k h)

@@ -24,11 +24,7 @@ fn spell(xs: &[u8], k: usize, n: usize, w: usize) -> u8
     requires { (0 < k) × (k ≤ 8) × (w ≤ 8) × (n + w ≤ k * length xs.now) × (n + w ≤ 16000) }
     ensures { (result ≡ spelt 0 (take w (drop n (bits_of k xs.now)))) × (result < 2 ^ w) }
 {
-    let mut value = 0;
-    for at in n..n + w {
-        value = value * 2 + bit(xs, k, at);
-    }
-    value
+    (n..n + w).fold(0, |value, at| value * 2 + bit(xs, k, at))
 }
 
 // Puts the bits of the bytes into the last k bits of each octet.

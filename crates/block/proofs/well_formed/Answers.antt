@@ -1,5 +1,6 @@
 -- The definition makes the same tests.
-use Rattle.std.proofs.Common.{◌≡◌, refl, sym, ap, ◌∙◌, arith, rules, tests, true, ◌&&◌, List, [], ◌∷◌, ℕ, ◌+◌, ◌-◌, ◌≤◌, eqb, get_or, take, drop}
+use Rattle.std.proofs.Common.{◌≡◌, refl, sym, ap, ◌∙◌, arith, rules, tests, true, ◌&&◌, List, [], ◌∷◌, ℕ, ◌+◌, ◌-◌, ◌≤◌, eqb, get_or}
+use Rattle.std.proofs.Common.{take, drop}
 use Rattle.std.proofs.Math.Bool.{and-eq-true_iff}
 use Rattle.std.specs.List.{list_all}
 use Rattle.std.proofs.lemmas.Iterator.{YieldsList-from_slice}
@@ -12,7 +13,8 @@ use Rattle.block.proofs.well_formed.Goals as goal
 use Rattle.block.proofs.well_formed.Goals.{Joined-allowed, then-allowed, else-allowed}
 
 -- what the first two tests give
-value : (c : Joined-allowed) → c.if-allowed.value ≡ (allowed (get_or c.args.b.now 8 0) c.from-count.result && eqb (get_or c.args.b.now 9 0) 0)
+value : (c : Joined-allowed)
+    → c.if-allowed.value ≡ (allowed (get_or c.args.b.now 8 0) c.from-count.result && eqb (get_or c.args.b.now 9 0) 0)
 value c = elim c.if-allowed.branch [
   | then-allowed w ↦ rw (sym w.if-allowed.ensures) w.value-is
   | else-allowed w ↦ rw (sym w.if-allowed.ensures) (w.value-is ∙ w.if-allowed.false)

@@ -5,4 +5,5 @@ use Rattle.cue.proofs.fill.Given as goal
 
 abbrev pub invariant-loop-i : goal.invariant-loop-i
 invariant-loop-i l =
-    take l.i l.octets ++ carrying l.k (drop l.i l.octets) (drop (l.k * l.i) (bits_of 8 l.bytes)) ≡ carrying l.k l.initial.octets (bits_of 8 l.bytes)
+    take l.i l.octets ++ carrying l.k (drop l.i l.octets) (drop (l.k * l.i) (bits_of 8 l.bytes))
+    ≡ carrying l.k l.initial.octets (bits_of 8 l.bytes)

@@ -1,28 +1,59 @@
--- A bit more is read, and is the next of them.
-use Rattle.std.proofs.Common.{◌≡◌, ◌+◌, ◌-◌, ◌<◌, ◌∙◌, suc, length, arith, pow-suc}
+-- Bit after bit, what they spell.
+use Rattle.std.proofs.Common.{◌≡◌, refl, ◌∙◌, sym, ap, rules, tests, arith, List, [], ◌∷◌, ℕ, zero, suc, ◌+◌, ◌-◌, ◌*◌, ◌^◌, ◌<◌, ◌≤◌}
+use Rattle.std.proofs.Common.{length, get_or, lit<, take, drop, fold, add-one, pow-suc, length-drop, length-take-le}
+use Rattle.std.specs.List.{range_with_len}
+use Rattle.std.specs.Iterator.{Yields}
+use Rattle.std.specs.declared.ops.Range.{Range}
+use Rattle.std.proofs.iter.Yields.{nat_range_steps}
+use Rattle.std.proofs.Math.Nat.{pow-le-pow_right}
+use Rattle.std.proofs.lemmas.List.{length_push}
+use Rattle.std.proofs.lemmas.Fn.{serves_by}
+use Rattle.std.proofs.lemmas.Iterator.{YieldsList-from_range}
+use Rattle.std.proofs.lemmas.Iterator.Consumers.{fold_from_yields_List}
 use Rattle.g722.specs.Cue.{bits_of, spelt}
-use Rattle.cue.specs.Bits.{length-bits_of, spelt_turn}
+use Rattle.cue.specs.Bits.{below_take, below_drop, below_bits_of, length-bits_of, spelt_turn, spelt_less}
 use Rattle.cue.proofs.spell.Goals as goal
 
-pub loop-at-preserved : goal.loop-at-preserved
-loop-at-preserved c =
+-- where a range stands after some of its items
+place : (xs : List ℕ) (s t : Range ℕ) → Yields nat_range_steps s xs t → (t.start ≡ s.start + length xs) × (t.end ≡ s.end)
+place [] s t y = (omega (arith, ap (λ (k : Range ℕ). k.start) y), sym (ap (λ (k : Range ℕ). k.end) y))
+place (x ∷ xs) s t y = let h = place xs y.0 t y.2 in (omega (arith, h.0, y.1.1.2), h.1 ∙ y.1.0)
+
+-- bit after bit, from bit n on
+folded : (b : List ℕ) (v n w : ℕ) → n + w ≤ length b
+    → fold (λ v at. v * 2 + get_or b at 0) v (range_with_len n w) ≡ spelt v (take w (drop n b))
+unfolding spelt
+folded b v n zero h = refl
+folded b v n (suc w) h =
+    let e : suc w - 1 ≡ w = omega arith in
+    folded b (v * 2 + get_or b n 0) (n + 1) w (omega arith) ∙ (rw e at (spelt_turn v n (suc w) b (omega arith) (omega arith)))
+
+-- after so many bits the closure has what it captured, and a number of so many bits: so there is room for the next, which is there
+pub fold-requires-clause-callable : goal.fold-requires-clause-callable
+fold-requires-clause-callable c =
     let a = c.args in
-    let l = c.loop-at in
-    let from = bits_of a.k a.xs.now in
-    let left = a.n + a.w - l.at in
-    let h : l.at < length from = rw (length-bits_of a.k a.xs.now) (omega arith) in
-    let e : l.at + 1 - a.n ≡ suc (l.at - a.n) = omega arith in
-    let f : a.n + a.w - (l.at + 1) ≡ left - 1 = omega arith in (
-      rw (e, pow-suc 2 (l.at - a.n)) (omega arith),
-      rw (f, c.bit.ensures.0) (spelt_turn l.value l.at left from (omega arith) h ∙ l.invariant.1),
-    )
+    serves_by _ (λ (xs : List ℕ) p. (p.0.0.now ≡ a.xs.now) × (p.0.1.now ≡ a.k) × (p.1 < 2 ^ length xs))
+    (λ xs q x v j r.
+    let less : v.1 < (q.1 + 1) * 2 = search (rules, tests) in
+    (search (rules, tests), search (rules, tests), rw (length_push, add-one, pow-suc 2 (length xs)) (omega (arith, j.2, less))))
+    _ _ _ _ (refl, refl, lit< tt)
+    (λ xs t q x u y e j.
+    let p = place xs _ t y in
+    let l : length xs ≤ 7 = omega (arith, p.0, p.1, e.1.0) in
+    let m : 2 ^ length xs ≤ 2 ^ 7 = pow-le-pow_right (omega arith) l in
+    let small : q.1 < 128 = omega (arith, j.2) in
+    let within : x < a.k * length a.xs.now = omega (arith, p.0, p.1, e.1.0, e.1.1) in
+    let inside : x < q.0.1.now * length q.0.0.now = rw (j.0, j.1) within in
+    search (rules, tests))
 
 pub returns : goal.returns
-unfolding spelt
 returns c =
     let a = c.args in
-    let l = c.loop-at in
-    let e : l.at ≡ a.n + a.w = omega arith in
-    let f : l.at - a.n ≡ a.w = omega arith in
-    let z : a.n + a.w - l.at ≡ 0 = omega arith in
-    (rw z at l.invariant.1, rw f at l.invariant.0)
+    let b = bits_of a.k a.xs.now in
+    let spelt_out = take a.w (drop a.n b) in
+    let e = fold_from_yields_List _ (λ v at. v * 2 + get_or b at 0) 0 c.fold.result c.fold.ensures.ran
+    (YieldsList-from_range a.n (a.n + a.w) a.w refl (omega arith)) (λ v at r q k. search (rules, tests)) in
+    let room : a.n + a.w ≤ length b = rw (length-bits_of a.k a.xs.now) (omega arith) in
+    let f : c.fold.result ≡ spelt 0 spelt_out = e ∙ folded b 0 a.n a.w room in
+    let long : length spelt_out ≡ a.w = length-take-le a.w (drop a.n b) (rw length-drop (omega arith)) in
+    (f, rw f (rw long at (spelt_less spelt_out (below_take 2 a.w _ (below_drop 2 a.n _ (below_bits_of a.k a.xs.now))))))

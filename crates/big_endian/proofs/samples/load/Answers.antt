@@ -1,5 +1,6 @@
 -- `big_endian::load` meets its contract: two's complement is the number of the two bytes, less 65536 from 32768 up.
-use Rattle.std.proofs.Common.{◌≡◌, ◌∙◌, refl, ap, arith, List, [], ◌∷◌, ℕ, ℤ, ◌+◌, ◌*◌, ◌/◌, ◌<◌, to_z, min, length, get_or, take, drop, length-take, append-nil, drop_of_length-le}
+use Rattle.std.proofs.Common.{◌≡◌, ◌∙◌, refl, ap, arith, List, [], ◌∷◌, ℕ, ℤ, ◌+◌, ◌*◌, ◌/◌, ◌<◌, to_z, min, length, get_or, take}
+use Rattle.std.proofs.Common.{drop, length-take, append-nil, drop_of_length-le}
 use Rattle.std.specs.Int.{w16}
 use Rattle.std.proofs.lemmas.Bool.Decides.{nat_tests}
 use Rattle.std.proofs.lemmas.Int.{ints}

@@ -1,5 +1,6 @@
 -- `big_endian::store` meets its contract: the bits of a number are its word.
-use Rattle.std.proofs.Common.{◌≡◌, ◌∙◌, refl, ap, ap₂, arith, suc, take, [], ◌∷◌, ℕ, ◌/◌, ◌%◌, ◌-◌, ◌^◌, ◌<◌, ℤ, pos, negsuc, get_or, get_or-take, length-take, rules, SFits, of_z, to_z-of_z}
+use Rattle.std.proofs.Common.{◌≡◌, ◌∙◌, refl, ap, ap₂, arith, suc, take, [], ◌∷◌, ℕ, ◌/◌, ◌%◌, ◌-◌, ◌^◌, ◌<◌, ℤ, pos, negsuc, get_or}
+use Rattle.std.proofs.Common.{get_or-take, length-take, rules, SFits, of_z, to_z-of_z}
 use Rattle.std.specs.Int.{w16, to_be_bytes}
 use Rattle.big_endian.specs.Bytes.{word_of, high_of, low_of, pcm_bytes, stored, store_call}
 use Rattle.big_endian.proofs.Turns.{store_turn}
