@@ -40,6 +40,9 @@ module _ (t n m : ℕ) (o lent : List ℕ) where
       (λ e. by_test (allowed m (length o)) (λ f. absurd (h (rw (e, f)))) (λ f. rw (e, f)))
       (λ e. rw e)
 
+-- what `write` is proved by
+pub ruleset writing = (write_6, write_8, write_done, allowed_bounds, allowed_within)
+
 -- ---- reading
 
 module _ (b : List ℕ) where
@@ -83,6 +86,9 @@ module _ (b : List ℕ) where
       (λ f. by_test (well_formed b) (λ g. rw (e, f, g) (omega arith)) (λ g. rw (e, f, g) (omega arith)))
       (λ f. rw (e, f) (omega arith)))
       (λ e. rw e (omega arith))
+
+-- what `read` is proved by
+pub ruleset reading = (read_6, read_7, read_8, read_done, formed_bytes, formed_within)
 
 -- what a block that reads well is
 pub record Sound (b : List ℕ) : Type 0 where

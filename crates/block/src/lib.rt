@@ -81,6 +81,7 @@ fn put(take: u32, block: u32, mode: u8, octets: &[u8], out: &mut [u8])
 }
 
 // Writes a block into the 512 bytes lent: 6, then 8.
+#[tactic(auto, using(crate::proofs::Numbers::writing))]
 pub fn write(take: u32, block: u32, mode: u8, octets: &[u8], out: &mut [u8]) -> Result<(), Refusal>
     ensures { Does (write_call take block mode octets.now out.old) (moved result) out.new }
 {
@@ -104,6 +105,7 @@ fn well_formed(b: &[u8]) -> bool
 }
 
 // Reads a block: 6, then 7, then 8.
+#[tactic(auto, using(crate::proofs::Numbers::reading))]
 pub fn read(b: &[u8]) -> Result<Header, Refusal>
     ensures { read_as result ≡ read_call b.now }
 {
