@@ -10,6 +10,8 @@ use borrow.Author.Tests.{ne_eqb}
 use Rattle.laws.specs.Outcome.{Does}
 use Rattle.laws.specs.Turns.{drop_one, put_one, put_all}
 use Rattle.g722.specs.Answers.{Moved}
+use Rattle.g722.proofs.Tells.{refused_number}
+use Rattle.cue.specs.Fills.{passed}
 use Rattle.g722.specs.Cue.{spelt, gathered, carrying, data_call}
 
 -- one octet carries its bits
@@ -48,3 +50,6 @@ module _ {m : Moved} {number : ℕ} (e : m ≡ record { number = number; index =
   pub refused : (m.number ≡ 0 → ⊥) → Does (data_call number old new) m old
   unfolding data_call
   refused h = record { answer = e; left = rw (← ap (λ (a : Moved). a.number) e, ne_eqb m.number 0 h) }
+
+-- what `put` and `take` are proved by
+pub ruleset calls = (done, refused, refused_number, passed)

@@ -67,6 +67,7 @@ fn width(mode: u8, octets: usize, bytes: usize) -> Result<usize, Refusal>
 }
 
 // Puts data bytes into octets, where the mode and the lengths allow it.
+#[tactic(auto, using(crate::proofs::Laws::calls), unfolding(g722::specs::Cue::put_call))]
 pub fn put(mode: u8, octets: &mut [u8], bytes: &[u8]) -> Result<(), Refusal>
     ensures { Does (put_call mode octets.old bytes.now) (moved result) octets.new }
 {
@@ -76,6 +77,7 @@ pub fn put(mode: u8, octets: &mut [u8], bytes: &[u8]) -> Result<(), Refusal>
 }
 
 // Takes data bytes out of octets, where they allow it.
+#[tactic(auto, using(crate::proofs::Laws::calls), unfolding(g722::specs::Cue::take_call))]
 pub fn take(mode: u8, octets: &[u8], bytes: &mut [u8]) -> Result<(), Refusal>
     ensures { Does (take_call mode octets.now bytes.old) (moved result) bytes.new }
 {
