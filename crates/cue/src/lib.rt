@@ -49,6 +49,7 @@ fn gather(octets: &[u8], bytes: &mut [u8], k: usize)
 
 // How many bits of each octet data takes in a mode, where it fills the octets by them. More bytes than octets never do: they are refused
 // before 8 * bytes is taken, which then fits.
+#[tactic(auto, using(std::proofs::lemmas::Bool::Decides::nat_tests), unfolding(g722::specs::Cue::data_number, g722::specs::Cue::unfilled))]
 fn width(mode: u8, octets: usize, bytes: usize) -> Result<usize, Refusal>
     ensures said { moved (result_map_both (λ k. tt) (λ r. r) result) ≡ record { number = data_number mode octets bytes; index = 0 } }
     ensures given { IfOk result (λ k. k ≡ given_up mode) }
