@@ -15,6 +15,15 @@ scale-held : (k : ℕ) → mag (scale_at k) < 2 ^ 15
 unfolding scale_at
 scale-held k = omega (arith, ila_small k)
 
+-- what is limited, by way of the widened weight wd, fits 32 bits
+sum : (nb w : ℤ) {wd : ℤ} → mag nb < 2 ^ 15 → mag w < 2 ^ 15 → mag wd < 2 ^ 31 → wd ≡ to_z w16 (of_z w16 w)
+    → FitsSigned w32 (to_z w32 (of_z w32 (shr_z (to_z w32 (of_z w32 (to_z w32 (of_z w32 nb) *ℤ pos 32512))) 32768)) +ℤ to_z w32 (of_z w32 wd))
+sum nb w {wd} hn hw hd wd≡ =
+    let old = back32 nb (omega (arith, hn)) in
+    let m : FitsSigned w32 (to_z w32 (of_z w32 nb) *ℤ pos 32512) = rw old (fits_abs (omega (arith, product_abs nb hn))) in
+    rw (to_z-of_z m, to_z-of_z (shr_fits 32768 m), old, widened {x = w} hd wd≡ (record { sfits = hw }))
+    (fits_abs (omega (arith, abs_add (shr_z (nb *ℤ pos 32512) 32768) w, kept_abs nb hn, abs16 {z = w} (record { sfits = hw }))))
+
 -- the log factor of nb after the weight w, by way of the widened weight wd and the limit t, as it is read
 log : (high : Bool) (nb w : ℤ) {wd t l : ℤ} → mag nb < 2 ^ 15 → mag w < 2 ^ 15 → mag wd < 2 ^ 31 → mag t < 2 ^ 31 → mag l < 2 ^ 31
     → wd ≡ to_z w16 (of_z w16 w) → t ≡ top high
@@ -25,10 +34,10 @@ log high nb w {wd} {t} {l} hn hw hd ht hl wd≡ t≡ l≡ =
     let old = back32 nb (omega (arith, hn)) in
     let weight = widened {x = w} hd wd≡ (record { sfits = hw }) in
     let m : FitsSigned w32 (to_z w32 (of_z w32 nb) *ℤ pos 32512) = rw old (fits_abs (omega (arith, product_abs nb hn))) in
-    let a : FitsSigned w32 (to_z w32 (of_z w32 (shr_z (to_z w32 (of_z w32 (to_z w32 (of_z w32 nb) *ℤ pos 32512))) 32768)) +ℤ to_z w32 (of_z w32 wd)) =
-    rw (to_z-of_z m, to_z-of_z (shr_fits 32768 m), old, weight)
-    (fits_abs (omega (arith, abs_add (shr_z (nb *ℤ pos 32512) 32768) w, kept_abs nb hn, abs16 {z = w} (record { sfits = hw })))) in
-    rw (back32 l hl ∙ l≡, to_z-of_z a, to_z-of_z m, to_z-of_z (shr_fits 32768 m), old, weight, back32 t ht ∙ t≡) (log_is nb hn high w)
+    rw (back32 l hl ∙ l≡, to_z-of_z (sum nb w hn hw hd wd≡), to_z-of_z m, to_z-of_z (shr_fits 32768 m), old, weight, back32 t ht ∙ t≡) (log_is nb hn high w)
+
+pub overflow_add-f : goal.overflow_add-f
+overflow_add-f c = sum c.args.f.log c.args.w c.args.f.log_bound c.ranges.w.sfits c.from.type_inv c.from.ensures
 
 pub overflow_cast-k : goal.overflow_cast-k
 overflow_cast-k c =
