@@ -138,12 +138,8 @@ pub fn tick(
     ensures { Does (tick_call desk modes.now octets.now room.old) (answered desk result) room.new }
 {
     let no_desk = unseated(desk.ports);
-    let unfit = uneven(
-        usize::from(desk.ports),
-        modes.len(),
-        octets.len(),
-        room.len(),
-    );
+    let ports = usize::from(desk.ports);
+    let unfit = uneven(ports, modes.len(), octets.len(), room.len());
     if no_desk {
         Err(Refusal::Ports)
     } else if unfit {
