@@ -3,6 +3,7 @@
 use mathlib.Core.Path.{◌≡◌, sym, ap, ◌∙◌}
 use mathlib.Core.List.{List, ◌++◌}
 use Prim.Native.Nat.{ℕ, suc, ◌+◌, ◌*◌, ◌/◌, ◌-◌, ◌^◌, ◌≤◌, ◌<◌}
+use native.Mathlib.Nat.{div-add-mod'}
 use native.Mathlib.Omega.{arith}
 use lib.ListN.{length, take, drop, get_or, set, drop_of_length-le}
 use lib.Seq.{drop-drop, drop-set-lt}
@@ -28,6 +29,9 @@ pub fill_end : (k i n : ℕ) (o from : List ℕ) → length o ≤ i → take i o
 unfolding carrying
 fill_end k i n o from h = put_all o _ i h (rw (drop_of_length-le o h))
 
+-- what `fill` is proved by
+pub ruleset filling = (fill_turn, fill_end, div-add-mod')
+
 -- one byte is spelt
 pub gather_turn : (i n w : ℕ) (b from : List ℕ) → i < length b → i < n → w ≡ spelt 0 (take 8 (drop (8 * i) from))
     → take (i + 1) (set b i w) ++ gathered (n - (i + 1)) (drop (8 * (i + 1)) from) ≡ take i b ++ gathered (n - i) (drop (8 * i) from)
@@ -40,6 +44,9 @@ gather_turn i n w b from h l e =
 pub gather_end : (i n m : ℕ) (b from : List ℕ) → length b ≤ i → n ≤ i → take i b ++ gathered (n - i) (drop m from) ≡ b
 unfolding gathered
 gather_end i n m b from h l = let z : n - i ≡ 0 = omega arith in put_all b _ i h (rw z)
+
+-- what `gather` is proved by
+pub ruleset gathering = (gather_turn, gather_end)
 
 -- a data call's outcome: with number 0 the new content, else the old
 module _ {m : Moved} {number : ℕ} (e : m ≡ record { number = number; index = 0 }) (old new : List ℕ) where

@@ -28,6 +28,7 @@ fn spell(xs: &[u8], k: usize, n: usize, w: usize) -> u8
 }
 
 // Puts the bits of the bytes into the last k bits of each octet.
+#[tactic(auto, using(crate::proofs::Laws::filling))]
 fn fill(octets: &mut [u8], bytes: &[u8], k: usize)
     requires { Fills k (length octets.old) (length bytes.now) }
     ensures { octets.new ≡ carrying k octets.old (bits_of 8 bytes.now) }
@@ -38,6 +39,7 @@ fn fill(octets: &mut [u8], bytes: &[u8], k: usize)
 }
 
 // Takes the bytes out of the last k bits of each octet.
+#[tactic(auto, using(crate::proofs::Laws::gathering))]
 fn gather(octets: &[u8], bytes: &mut [u8], k: usize)
     requires { Fills k (length octets.now) (length bytes.old) }
     ensures { bytes.new ≡ gathered (length bytes.old) (bits_of k octets.now) }
