@@ -4,6 +4,7 @@ ghost use Rattle.laws.specs.Outcome.{Does};
 ghost use Rattle.big_endian.specs.Bytes.{load_call, store_call};
 
 // Reads as many samples as both have room for, and answers how many.
+#[tactic(auto, unfolding(crate::specs::Bytes::load_call, crate::specs::Bytes::loaded, crate::specs::Bytes::pcm_samples))]
 pub fn load(bytes: &[u8], samples: &mut [i16]) -> usize
     ensures { Does (load_call bytes.now samples.old) result samples.new }
 {
@@ -16,6 +17,7 @@ pub fn load(bytes: &[u8], samples: &mut [i16]) -> usize
 }
 
 // Writes as many samples as both have room for, and answers how many.
+#[tactic(auto, unfolding(crate::specs::Bytes::store_call, crate::specs::Bytes::stored, crate::specs::Bytes::pcm_bytes))]
 pub fn store(samples: &[i16], bytes: &mut [u8]) -> usize
     ensures { Does (store_call samples.now bytes.old) result bytes.new }
 {

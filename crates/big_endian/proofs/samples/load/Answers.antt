@@ -1,21 +1,17 @@
 -- `big_endian::load` meets its contract: two's complement is the number of the two bytes, less 65536 from 32768 up.
-use Rattle.std.proofs.Common.{◌≡◌, ◌∙◌, refl, ap, arith, List, [], ◌∷◌, ℕ, ℤ, ◌+◌, ◌*◌, ◌/◌, ◌<◌, to_z, min, length, get_or, take}
-use Rattle.std.proofs.Common.{drop, length-take, append-nil, drop_of_length-le}
+use Rattle.std.proofs.Common.{◌≡◌, ◌∙◌, ap, arith, List, [], ◌∷◌, ℕ, ℤ, ◌+◌, ◌*◌, ◌/◌, ◌<◌, to_z, length, get_or}
+use Rattle.std.proofs.Common.{length-take}
 use Rattle.std.specs.Int.{w16}
 use Rattle.std.proofs.lemmas.Bool.Decides.{nat_tests}
 use Rattle.std.proofs.lemmas.Int.{ints}
 use Rattle.laws.specs.Back.{back16}
-use Rattle.big_endian.specs.Bytes.{sample_of, pcm_samples, loaded, load_call}
+use Rattle.big_endian.specs.Bytes.{sample_of}
 use Rattle.big_endian.proofs.Turns.{load_turn, pair_at}
 use Rattle.big_endian.proofs.samples.load.Goals as goal
 
 of_word : (high low : ℕ) → high < 256 → low < 256 → to_z w16 (high * 256 + low) ≡ sample_of high low
 unfolding sample_of
 of_word high low h l = grind (arith, ints, nat_tests)
-
-pub loop-i-init : goal.loop-i-init
-unfolding loaded pcm_samples
-loop-i-init c = refl
 
 pub loop-i-preserved : goal.loop-i-preserved
 loop-i-preserved c =
@@ -30,15 +26,3 @@ loop-i-preserved c =
     let word : c.from_be_bytes.result ≡ sample_of high low =
     c.from_be_bytes.ensures ∙ rw pair (of_word high low (c.type_inv.bytes (2 * i)).fits (c.type_inv.bytes (2 * i + 1)).fits) in
     load_turn i b _ (omega arith) c.loop-i-test.true c.loop-i.invariant (back16 _ c.from_be_bytes.type_inv ∙ word)
-
-pub returns : goal.returns
-unfolding load_call loaded
-returns c =
-    let b = c.args.bytes.now in
-    let s = c.args.samples.now in
-    let n = c.min-n.result in
-    let room : n ≡ min (length b / 2) (length s) = c.min-n.ensures ∙ ap (λ (k : ℕ). min k (length s)) c.as_chunks.ensures.front_len in
-    let done : c.loop-i.i ≡ n = omega (arith, room, length-take n s) in
-    let none : drop n (take n s) ≡ [] = drop_of_length-le (take n s) (omega (arith, length-take n s)) in
-    let items : c.loop-i.x-items ≡ pcm_samples (take (2 * n) b) = rw (done, none, append-nil) at c.loop-i.invariant in
-    record { answer = room; left = rw items (ap (λ (k : ℕ). (loaded k b s).left) room) }

@@ -1,8 +1,8 @@
 -- `big_endian::store` meets its contract: the bits of a number are its word.
-use Rattle.std.proofs.Common.{◌≡◌, ◌∙◌, refl, ap, ap₂, arith, suc, take, [], ◌∷◌, ℕ, ◌/◌, ◌%◌, ◌-◌, ◌^◌, ◌<◌, ℤ, pos, negsuc, get_or}
+use Rattle.std.proofs.Common.{◌≡◌, ◌∙◌, ap, ap₂, arith, suc, take, [], ◌∷◌, ℕ, ◌/◌, ◌%◌, ◌-◌, ◌^◌, ◌<◌, ℤ, pos, negsuc, get_or}
 use Rattle.std.proofs.Common.{get_or-take, length-take, rules, SFits, of_z, to_z-of_z}
 use Rattle.std.specs.Int.{w16, to_be_bytes}
-use Rattle.big_endian.specs.Bytes.{word_of, high_of, low_of, pcm_bytes, stored, store_call}
+use Rattle.big_endian.specs.Bytes.{word_of, high_of, low_of}
 use Rattle.big_endian.proofs.Turns.{store_turn}
 use Rattle.big_endian.proofs.samples.store.Goals as goal
 
@@ -16,10 +16,6 @@ bytes_of (negsuc n) f =
     let b : (65536 - suc n) % 256 ≡ (65535 - n) % 256 = omega (arith, f.sfits) in
     ap₂ (λ (x y : ℕ). x ∷ y ∷ []) a b
 
-pub loop-i-init : goal.loop-i-init
-unfolding stored pcm_bytes
-loop-i-init c = refl
-
 pub loop-i-preserved : goal.loop-i-preserved
 loop-i-preserved c =
     let i = c.loop-i.i in
@@ -32,11 +28,3 @@ loop-i-preserved c =
     ∙ c.to_be_bytes.ensures
     ∙ rw (to_z-of_z f) (bytes_of (get_or (take n s) i (pos 0)) f)
     ∙ ap (λ (z : ℤ). high_of z ∷ low_of z ∷ []) (get_or-take n s i (pos 0) inside))
-
-pub returns : goal.returns
-unfolding store_call stored
-returns c =
-    let a = c.args in
-    let n = c.min-n.ensures in
-    let e : c.loop-i.i ≡ c.min-n.result = omega (arith, length-take c.min-n.result a.samples.now) in
-    record { answer = n; left = c.loop-i.invariant ∙ ap (λ (k : ℕ). (stored k a.samples.now a.bytes.now).left) (e ∙ n) }
