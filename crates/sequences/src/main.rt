@@ -36,10 +36,8 @@ impl fmt::Display for Fault {
 
 // Opens a file to read. Its name has to be UTF-8.
 fn opened(files: &impl Files<File = File>, name: &[u8]) -> io::Result<File> {
-    match str::from_utf8(name) {
-        Ok(name) => File::open(files, name),
-        Err(_) => Err(io::Error::from(ErrorKind::InvalidFilename)),
-    }
+    let name = str::from_utf8(name).map_err(|_| ErrorKind::InvalidFilename)?;
+    File::open(files, name)
 }
 
 // Reads until there is no more room, the file ends or a read fails, and answers what there is.
