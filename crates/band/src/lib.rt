@@ -24,8 +24,8 @@ fn term(b: i16, d: i16) -> i16
     mul(b, add(d, d))
 }
 
-// FILTEZ: the output of the transversal part, summed from the oldest on. It is a function of its own in the machine code too: `sweep` calls it
-// in a loop that seldom needs it, and that is slower where it stands within.
+// FILTEZ: the output of the transversal part, summed from the oldest on. It stays a function of its own in the machine code: the loop of
+// `sweep` seldom calls it, and is to stay small.
 #[inline(never)]
 pub fn filtez(z: Zeros) -> i16
     ensures { result ≡ filtez z }
