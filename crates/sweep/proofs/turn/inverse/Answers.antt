@@ -1,5 +1,5 @@
 -- `sweep::turn::inverse` meets its contract: a scale times an output is never stopped, and is no larger than the output.
-use Rattle.std.proofs.Common.{◌≡◌, sym, ◌≤◌, nat_abs, arith, mul-le-mul, SFits, to_z-of_z}
+use Rattle.std.proofs.Common.{sym, ◌≤◌, nat_abs, arith, mul-le-mul, SFits, to_z-of_z}
 use mir.Syntax.{w32}
 use lib.IntN.{◌*ℤ◌}
 use lib.Signed.{shr_z}

@@ -1,5 +1,5 @@
 -- `sweep::turn::predic` meets its contract: the sum of the two outputs fits 32 bits, and is stopped.
-use Rattle.std.proofs.Common.{◌≡◌, ◌∙◌, ap, ℤ, pos, ◌+ℤ◌, ◌^◌, ◌<◌, SFits, to_z-of_z, arith}
+use Rattle.std.proofs.Common.{◌∙◌, ap, ℤ, pos, ◌+ℤ◌, ◌^◌, ◌<◌, SFits, to_z-of_z, arith}
 use mir.Syntax.{w32}
 use Rattle.std.specs.Int.Signed.{mag}
 use Rattle.laws.specs.Back.{back32}
