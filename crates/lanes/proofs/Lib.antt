@@ -1,5 +1,4 @@
 -- What the proofs of `lanes` share, and the table of answers.
 pub mod Sides
 pub mod Adding
-pub mod Rows
 pub mod Unique

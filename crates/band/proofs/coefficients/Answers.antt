@@ -1,7 +1,7 @@
 -- `band::coefficients` meets its contract: every call of its closure gives the next value of one coefficient.
 use Rattle.std.proofs.Common.{rules, ◌≡◌, length}
 use Rattle.g722.specs.Band.{upzero}
-use Rattle.band.proofs.Laws.{zipped}
+use Rattle.arith.proofs.Made.{zipped}
 use Rattle.band.proofs.coefficients.Goals as goal
 
 pub returns : goal.returns

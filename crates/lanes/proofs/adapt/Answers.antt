@@ -3,8 +3,8 @@ use Rattle.std.proofs.Common.{rules, ◌≡◌, ◌≤◌, length}
 use Rattle.std.proofs.iter.Serving.{serving}
 use lib.IntN.{nat_abs}
 use Rattle.g722.specs.Band.{upzero}
+use Rattle.arith.proofs.Made.{zipped}
 use Rattle.idle.specs.Plain.{signed_gain_small, upzero_signed}
-use Rattle.lanes.proofs.Rows.{zipped}
 use Rattle.lanes.proofs.adapt.Goals as goal
 
 pub from_fn-requires : goal.from_fn-requires

@@ -1,7 +1,8 @@
 -- `mirror::kept` meets its contract: the samples are copied in turn from both rows.
 use Rattle.std.proofs.Common.{rules, tests, ◌∙◌, zero-add, ℕ, ◌+◌, ◌/◌, ◌%◌, cond, eqb}
 use Rattle.mirror.specs.Rows.{nth}
-use Rattle.mirror.proofs.Calls.{made, turned, turned_long}
+use Rattle.arith.proofs.Made.{made}
+use Rattle.mirror.proofs.Calls.{turned, turned_long}
 use Rattle.mirror.proofs.rows.kept.Goals as goal
 
 pub returns : goal.returns

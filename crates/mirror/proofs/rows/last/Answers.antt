@@ -3,7 +3,7 @@ use Rattle.std.proofs.Common.{rules, tests, ◌≡◌, ◌∙◌, ◌+◌, ◌-�
 use lib.IntN.{pos}
 use lib.Seq.{get_or-drop}
 use Rattle.mirror.specs.Rows.{nth}
-use Rattle.mirror.proofs.Calls.{made}
+use Rattle.arith.proofs.Made.{made}
 use Rattle.mirror.proofs.Loops.{either}
 use Rattle.mirror.proofs.rows.last.Goals as goal
 
