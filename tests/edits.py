@@ -12,7 +12,7 @@ from collections import namedtuple
 
 ROOT = pathlib.Path(__file__).resolve().parent.parent
 ITEM = re.compile(r'^(?:pub(?:\(crate\))? )?(?:ghost )?(?:extern "C" )?(\w+) (?:\w+::)*(\w+)', re.M)
-BLOCK = re.compile(r"(?:pub )?(?:impl(?:<[^{]*?>)? (?:(\w+)(?:<[^{]*?>)? for )?(\w+)|trait (\w+))")
+BLOCK = re.compile(r"(?:pub )?(?:impl(?:<[^{]*?>)? (?:(\w+(?:<[^{]*?>)?) for )?(\w+)|trait (\w+))")
 MEMBER = re.compile(r"^    (?:pub(?:\(crate\))? )?(fn|const) (\w+)", re.M)
 DEFINED = re.compile(r"^ *(?:unfoldable |abbrev )?(?:pub )?([\w'-]+) :(?=\s)", re.M)
 MODULE = re.compile(r"( *)module ")
@@ -30,10 +30,11 @@ def contents(crate):
 
 def member(block, at):
     """The function or constant of a block of methods that a place belongs to. Its proof is named after the block: after the type, or the type
-    and the trait."""
+    and the trait with its arguments."""
     trait, typed, named = BLOCK.match(block).groups()
+    after = named or typed + re.sub(r"\W", "", trait or "")
     found = [m[2] for m in MEMBER.finditer(block) if m.start() <= at]
-    return [f"{named or typed + (trait or '')}/{found[-1]}"] if found else []
+    return [f"{after}/{found[-1]}"] if found else []
 
 
 def owners(text, at):

@@ -241,18 +241,28 @@ second_abs one two a1 a2 =
 
 -- ---- the next record
 
+-- whatever the numbers are
+pub next_of : (b1 b2 r1 r2 p1 p2 p r a1 a2 : ℤ)
+    → a2 ≡ second_of (same_sign p p1) (same_sign p p2) b1 b2
+    → a1 ≡ first_of (same_sign p p1) b1 a2
+    → ◌≡◌ {A = Poles} (record { a1 = a1; a2 = a2; r1 = stop r; r2 = stop r1; p1 = stop p; p2 = stop p1 })
+    (next_poles (record { a1 = b1; a2 = b2; r1 = stop r1; r2 = stop r2; p1 = stop p1; p2 = stop p2 }) (stop p) (stop r))
+unfolding next_poles uppol1 uppol2 turned second_of first_of turned_by
+next_of b1 b2 r1 r2 p1 p2 p r a1 a2 e f =
+    let s : Poles = record { a1 = b1; a2 = b2; r1 = stop r1; r2 = stop r2; p1 = stop p1; p2 = stop p2 } in
+    let one = sym (same_stop p p1) in
+    let two = sym (same_stop p p2) in
+    let g : a2 ≡ uppol2 s (stop p) = e ∙ (λ j. second_of (one j) (two j) b1 b2) in
+    let h : a1 ≡ uppol1 s (uppol2 s (stop p)) (stop p) = f ∙ (λ j. first_of (one j) b1 (g j)) in
+    λ j. record { a1 = h j; a2 = g j; r1 = stop r; r2 = stop r1; p1 = stop p; p2 = stop p1 }
+
 pub next_is : (w : Recursive) (p r : ℤ) (a1 a2 : ℤ)
     → a2 ≡ second_of (same_sign p w.p1) (same_sign p w.p2) w.a1 w.a2
     → a1 ≡ first_of (same_sign p w.p1) w.a1 a2
     → ◌≡◌ {A = Poles} (record { a1 = a1; a2 = a2; r1 = stop r; r2 = stop w.r1; p1 = stop p; p2 = stop w.p1 })
     (next_poles (poles_of w) (stop p) (stop r))
-unfolding next_poles poles_of uppol1 uppol2 turned second_of first_of turned_by
-next_is w p r a1 a2 e f =
-    let one = sym (same_stop p w.p1) in
-    let two = sym (same_stop p w.p2) in
-    let g : a2 ≡ uppol2 (poles_of w) (stop p) = e ∙ (λ j. second_of (one j) (two j) w.a1 w.a2) in
-    let h : a1 ≡ uppol1 (poles_of w) (uppol2 (poles_of w) (stop p)) (stop p) = f ∙ (λ j. first_of (one j) w.a1 (g j)) in
-    λ j. record { a1 = h j; a2 = g j; r1 = stop r; r2 = stop w.r1; p1 = stop p; p2 = stop w.p1 }
+unfolding poles_of
+next_is w = next_of w.a1 w.a2 w.r1 w.r2 w.p1 w.p2
 
 -- a good record has the bounds
 pub good_bounds : (s : Poles) → good_poles s ≡ true → (nat_abs s.a1 ≤ 27648) × (nat_abs s.a2 ≤ 12288)

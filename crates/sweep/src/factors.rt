@@ -49,7 +49,7 @@ fn scale_at(table: &[u16; 32], k: usize) -> i32
     requires k_bound { k ≤ 352 }
     ensures { result ≡ scale_at k }
 {
-    ((((table[k % 32] as u32) << ((k / 32) as u32)) >> 10) * 4) as i32
+    (((u32::from(table[k % 32]) << ((k / 32) as u32)) >> 10) * 4) as i32
 }
 
 // The factors after a weight.
