@@ -19,10 +19,8 @@ fn every_second(row: &mut [i16], phase: usize, samples: &[i16])
 }
 
 // One sample of each pair, the earlier ones in phase 0 and the later ones in phase 1: of the past pairs, then of the new ones.
-pub(crate) fn deal(row: &mut [i16], phase: usize, past: &[i16; 22], samples: &[i16])
-    requires row_len { length row.old ≡ 171 }
+pub(crate) fn deal(row: &mut [i16; 171], phase: usize, past: &[i16; 22], samples: &[i16])
     requires phase_bound { phase ≤ 1 }
-    requires past_len { length past.now ≡ 22 }
     requires samples_len_bound { length samples.now ≤ 320 }
     ensures { Holds (λ (k : ℕ). nth (past.now ++ samples.now) (2 * k + phase)) row.new
         (11 + length samples.now / 2) }
@@ -60,9 +58,13 @@ fn differences_and_sums(xd: &mut [i16], xs: &mut [i16], low: &[i16], high: &[i16
 }
 
 // XD and XS of pairs: of the past ones, then of the new ones.
-pub(crate) fn cross(xd: &mut [i16], xs: &mut [i16], past: &Pairs, low: &[i16], high: &[i16])
-    requires xd_len { length xd.old ≡ 171 }
-    requires xs_len { length xs.old ≡ 171 }
+pub(crate) fn cross(
+    xd: &mut [i16; 171],
+    xs: &mut [i16; 171],
+    past: &Pairs,
+    low: &[i16],
+    high: &[i16],
+)
     requires low_len_bound { length low.now ≤ 160 }
     requires high_len { length high.now ≡ length low.now }
     ensures differences { Holds (stopped_xd (past.now.rl ++ low.now) (past.now.rh ++ high.now)) xd.new (11 + length low.now) }

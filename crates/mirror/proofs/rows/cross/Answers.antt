@@ -10,7 +10,8 @@ returns-clause-differences c =
     let p = a.past.now in
     let rl : length p.rl ≡ 11 = search rules in
     let rh : length p.rh ≡ 11 = search rules in
-    crossed sub p.rl p.rh a.low.now a.high.now a.xd.now rl rh c.requires.xd_len c.requires.low_len_bound (omega arith)
+    let xd : length a.xd.now ≡ 171 = search rules in
+    crossed sub p.rl p.rh a.low.now a.high.now a.xd.now rl rh xd c.requires.low_len_bound (omega arith)
     c.differences_and_sums.ensures.differences c.differences_and_sums-2.ensures.differences
 
 pub returns-clause-sums : goal.returns-clause-sums
@@ -19,5 +20,6 @@ returns-clause-sums c =
     let p = a.past.now in
     let rl : length p.rl ≡ 11 = search rules in
     let rh : length p.rh ≡ 11 = search rules in
-    crossed add p.rl p.rh a.low.now a.high.now a.xs.now rl rh c.requires.xs_len c.requires.low_len_bound (omega arith)
+    let xs : length a.xs.now ≡ 171 = search rules in
+    crossed add p.rl p.rh a.low.now a.high.now a.xs.now rl rh xs c.requires.low_len_bound (omega arith)
     c.differences_and_sums.ensures.sums c.differences_and_sums-2.ensures.sums
