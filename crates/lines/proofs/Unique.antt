@@ -12,3 +12,6 @@ refused_line = equation (λ κs a l m. refl) (λ M. lines.refused_line.Met.met)
 
 pub overload_line : LeavesOne contracts.overload_line.ended (λ M 𝓤. contracts.overload_line.clauses) lines.overload_line.Symbol.name lines.overload_line.Symbol.code
 overload_line = equation (λ κs a l m. refl) (λ M. lines.overload_line.Met.met)
+
+pub Line-text : LeavesOne contracts.Line.text.ended (λ M 𝓤. contracts.Line.text.clauses) lines.Line.text.Symbol.name lines.Line.text.Symbol.code
+Line-text = equation (λ κs a l m. refl) (λ M. lines.Line.text.Met.met)

@@ -1,6 +1,7 @@
 -- The lines of a listing, and how the code holds one.
 -- Assumes nothing.
-use Rattle.std.specs.Prelude.{◌≡◌, List, [], ◌∷◌, ◌++◌, ℕ, ◌+◌, ◌-◌, ◌≤◌, ◌<◌, ℤ, length, get_or, drop, replicate}
+use Rattle.std.specs.Prelude.{◌≡◌, List, [], ◌∷◌, ◌++◌, ℕ, ◌+◌, ◌-◌, ◌≤◌, ◌<◌, min, ℤ, length, get_or, drop, replicate}
+use denote.Ref.{Bor}
 use Rattle.lines.specs.Decimal.{decimal, signed}
 use Rattle.lines.specs.Text.{ascii}
 use Rattle.lines.specs.declared.Line.{Line}
@@ -23,6 +24,12 @@ overload_line limited = ascii "overload:" ++ (32 ∷ decimal limited ++ (ascii "
 -- a line held at the end of 160 bytes, behind zeros
 unfoldable pub line_of : List ℕ → Line
 line_of text = record { bytes = replicate (160 - length text) 0 ++ text; at = 160 - length text }
+
+-- its bytes, where they stand in it; none where it would begin behind them
+abbrev pub text_of : Bor Line → Bor (List ℕ)
+text_of line =
+    let at = min line.now.at 160 in
+    record { ref_ptr = (line.ref_ptr.0, line.ref_ptr.1 + at); now = drop at line.now.bytes }
 
 -- ---- what the steps of writing say
 

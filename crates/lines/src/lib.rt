@@ -3,7 +3,7 @@
 
 ghost use Rattle.std.specs.Prelude.{◌≡◌, [], ◌∷◌, ◌+◌, ◌<◌, length};
 ghost use Rattle.lines.specs.Decimal.{decimal, signed};
-ghost use Rattle.lines.specs.Lines.{line_of, Ready, Wrote, block_line, refused_line, overload_line};
+ghost use Rattle.lines.specs.Lines.{line_of, text_of, Ready, Wrote, block_line, refused_line, overload_line};
 
 // Bytes that end with a line: it stands from `at` on, behind zeros.
 #[derive(Clone, Copy)]
@@ -90,6 +90,13 @@ impl Line {
         ensures { Wrote 22 (32 ∷ signed z) self result }
     {
         self.signed(z).put(b' ')
+    }
+
+    // The bytes of the line; none where it would begin behind them.
+    pub fn text(&self) -> &[u8]
+        ensures { result ≡ text_of self.entry }
+    {
+        &self.bytes[self.at.min(160)..]
     }
 }
 

@@ -1,7 +1,7 @@
 // Lists a recording from standard input: one line per block, each take decoded from reset, and a last line at the first refusal.
 #![tactic(auto)]
 
-ghost use Rattle.std.specs.Prelude.{◌≡◌, ◌≤◌};
+ghost use Rattle.std.specs.Prelude.{◌≡◌};
 ghost use Rattle.lines.specs.Lines.{line_of};
 ghost use Rattle.playing.specs.Answer.{played_as};
 ghost use Rattle.listing.specs.Listed.{listed};
@@ -29,10 +29,8 @@ fn listed(p: Player, played: Result<PlayedBlock, Refusal>, before: u64) -> Line
 }
 
 // Writes a line out.
-fn print(out: &mut impl Write, line: Line) -> io::Result<()>
-    requires { line.at ≤ 160 }
-{
-    out.write_all(&line.bytes[line.at..])
+fn print(out: &mut impl Write, line: Line) -> io::Result<()> {
+    out.write_all(line.text())
 }
 
 // Plays a block, or a shorter last piece, and prints its line.

@@ -36,10 +36,8 @@ impl From<Refusal> for Stop {
 }
 
 // Writes a line to standard error.
-fn write_line(err: &Stderr, line: Line)
-    requires { line.at ≤ 160 }
-{
-    let _ = Print::write_all(err, &line.bytes[line.at..]);
+fn write_line(err: &Stderr, line: Line) {
+    let _ = Print::write_all(err, line.text());
 }
 
 // Writes the line `refused NUMBER INDEX` to standard error. It answers nothing; what is written no contract can say.

@@ -1,7 +1,7 @@
 // Walks a recording, lent as a whole, by the reader, and writes the lines of the listing. A recording of up to 128 blocks is read.
 #![tactic(auto)]
 
-ghost use Rattle.std.specs.Prelude.{◌≡◌, ◌≤◌};
+ghost use Rattle.std.specs.Prelude.{◌≡◌};
 ghost use Rattle.reader.specs.Walk.{walked, step_at, next_at};
 
 use block::Header;
@@ -27,17 +27,16 @@ fn after(src: &[u8], at: usize) -> Found
 }
 
 // Writes a line out.
-fn print(rt: &impl Print, line: Line) -> io::Result<()>
-    requires { line.at ≤ 160 }
-{
-    rt.write_all(&line.bytes[line.at..])
+fn print(rt: &impl Print, line: Line) -> io::Result<()> {
+    rt.write_all(line.text())
 }
 
 // The line of what the reader says of a block, with what the player says of its samples; or of a refusal after so many others.
-#[tactic(auto, unfolding(lines::specs::Lines::line_of))]
-fn line(read: Result<Header, Refusal>, played: Result<PlayedBlock, Refusal>, before: usize) -> Line
-    ensures { result.at ≤ 160 }
-{
+fn line(
+    read: Result<Header, Refusal>,
+    played: Result<PlayedBlock, Refusal>,
+    before: usize,
+) -> Line {
     match (read, played) {
         (Ok(h), Ok(b)) => {
             lines::block_line(h.take, h.block, h.mode, h.count, b.first, b.last, b.limited)
