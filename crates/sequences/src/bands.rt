@@ -3,7 +3,7 @@ use crate::text::Word;
 use arith::add;
 use bounds::reset_band;
 use g722::Band;
-use plain::{high_coded, high_heard, low_coded, low_heard};
+use plain::{bands_coded, high_heard, low_heard};
 
 // Both bands, of which a decoder moves only its own.
 #[derive(Clone, Copy)]
@@ -29,21 +29,15 @@ struct Output {
     next: Bands,
 }
 
-// The octet of two words of the bands.
-fn octet(ih: u8, il: u8) -> u8 {
-    (ih % 4) * 64 + il % 64
-}
-
 // The coders' word I# of X#, whose upper 15 bits are the signal of both bands.
 fn coded(s: Bands, x: i16) -> Output {
     let signal = x >> 1;
-    let low = low_coded(s.low, signal);
-    let high = high_coded(s.high, signal);
+    let coded = bands_coded(s.low, s.high, signal, signal);
     Output {
-        word: [octet(high.word, low.word), 0],
+        word: [coded.octet, 0],
         next: Bands {
-            low: low.next,
-            high: high.next,
+            low: coded.low,
+            high: coded.high,
         },
     }
 }

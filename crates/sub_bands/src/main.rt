@@ -4,38 +4,29 @@
 
 ghost use Rattle.std.specs.Prelude.{◌≤◌, length};
 
-use g722::Band;
+use coder::BothBands;
 use plain::bands_coded;
 use refusal::Stop;
 use std::env::{Env, FillError};
 use std::io::{Read, Write};
 
-// Both bands of a coder.
-#[derive(Clone, Copy)]
-struct Bands {
-    low: Band,
-    high: Band,
-}
-
-impl Bands {
-    // The bands at reset.
-    fn reset() -> Bands {
-        let c = coder::reset();
-        Bands {
-            low: c.low,
-            high: c.high,
-        }
+// Both bands at reset.
+fn reset() -> BothBands {
+    let c = coder::reset();
+    BothBands {
+        low: c.low,
+        high: c.high,
     }
 }
 
 // Codes as many pairs to octets as there are of both, and answers the bands after them.
-fn code(mut bands: Bands, pairs: &[[u8; 4]], octets: &mut [u8]) -> Bands {
+fn code(mut bands: BothBands, pairs: &[[u8; 4]], octets: &mut [u8]) -> BothBands {
     for (octet, &[a, b, c, d]) in octets.iter_mut().zip(pairs) {
         let low = i16::from_be_bytes([a, b]);
         let high = i16::from_be_bytes([c, d]);
         let coded = bands_coded(bands.low, bands.high, low, high);
         *octet = coded.octet;
-        bands = Bands {
+        bands = BothBands {
             low: coded.low,
             high: coded.high,
         };
@@ -44,7 +35,7 @@ fn code(mut bands: Bands, pairs: &[[u8; 4]], octets: &mut [u8]) -> Bands {
 }
 
 // Sends the whole pairs of a piece, and answers the bands after them.
-fn send(out: &mut impl Write, bands: Bands, bytes: &[u8]) -> Result<Bands, Stop>
+fn send(out: &mut impl Write, bands: BothBands, bytes: &[u8]) -> Result<BothBands, Stop>
     requires { length bytes.now ≤ 32000 }
 {
     let mut octets = [0; 8000];
@@ -57,7 +48,11 @@ fn send(out: &mut impl Write, bands: Bands, bytes: &[u8]) -> Result<Bands, Stop>
 
 // Reads what has arrived and the rest of its last pair, and sends that: nothing waits for a longer piece. At the end of the input no
 // bands are left.
-fn turn(input: &mut impl Read, out: &mut impl Write, bands: Bands) -> Result<Option<Bands>, Stop> {
+fn turn(
+    input: &mut impl Read,
+    out: &mut impl Write,
+    bands: BothBands,
+) -> Result<Option<BothBands>, Stop> {
     let mut bytes = [0; 32000];
     let n = input.read(&mut bytes).map_err(Stop::Read)?;
     if n == 0 {
@@ -75,7 +70,7 @@ fn turn(input: &mut impl Read, out: &mut impl Write, bands: Bands) -> Result<Opt
 
 // Piece after piece. A proved loop has to end, and nothing says that the input does: no run has so many pieces.
 fn run(input: &mut impl Read, out: &mut impl Write) -> Result<(), Stop> {
-    let mut bands = Bands::reset();
+    let mut bands = reset();
     for _ in 0..u64::MAX {
         let Some(next) = turn(input, out, bands)? else {
             break;
