@@ -8,6 +8,12 @@ use Rattle.g722.specs.declared.Band.{Band}
 use Rattle.g722.specs.declared.Coder.{Coder}
 use Rattle.g722.specs.declared.Decoder.{Decoder}
 use Rattle.big_endian.specs.Bytes.{pcm_samples, pcm_bytes}
+use Rattle.state.specs.declared.Kind.{Kind}
+use Rattle.state.specs.declared.Kind.TheVariants.{OfCoder, OfDecoder}
+
+-- the first byte, by the record
+abbrev pub byte_of : Kind → ℕ
+byte_of kind = elim kind [ OfCoder ↦ 1 | OfDecoder ↦ 2 ]
 
 -- ---- written
 

@@ -5,7 +5,7 @@ mod read;
 mod write;
 
 ghost use Rattle.std.specs.Prelude.{◌≡◌};
-ghost use Rattle.state.specs.declared.Kind.TheVariants.{OfCoder, OfDecoder};
+ghost use Rattle.state.specs.Layout.{byte_of};
 
 use g722::Band;
 pub use read::{read_coder, read_decoder};
@@ -29,7 +29,7 @@ enum Kind {
 
 // The first byte of such a state.
 fn first_byte(kind: Kind) -> u8
-    ensures { result ≡ elim kind [ OfCoder ↦ 1 | OfDecoder ↦ 2 ] }
+    ensures { result ≡ byte_of kind }
 {
     kind as u8
 }

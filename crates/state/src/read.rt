@@ -1,8 +1,7 @@
 // State bytes to records.
 ghost use Rattle.std.specs.Prelude.{◌≡◌, length, take, drop};
 ghost use Rattle.big_endian.specs.Bytes.{pcm_samples};
-ghost use Rattle.state.specs.declared.Kind.TheVariants.{OfCoder, OfDecoder};
-ghost use Rattle.state.specs.Layout.{band_of, part, holds, coder_in, decoder_in};
+ghost use Rattle.state.specs.Layout.{byte_of, band_of, part, holds, coder_in, decoder_in};
 
 use crate::{HIGH, Kind, LENGTH, LOW, PAST, Parts, first_byte};
 use big_endian::load;
@@ -11,7 +10,7 @@ use g722::{Band, Coder, Decoder, Factors, Pairs, Poles, Zeros};
 
 // Whether the bytes have the length of a state, and the first is this kind's.
 fn holds(kind: Kind, state: &[u8]) -> bool
-    ensures { result ≡ holds (elim kind [ OfCoder ↦ 1 | OfDecoder ↦ 2 ]) state.now }
+    ensures { result ≡ holds (byte_of kind) state.now }
 {
     state.len() == LENGTH && state[0] == first_byte(kind)
 }

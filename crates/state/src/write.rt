@@ -2,8 +2,7 @@
 ghost use Rattle.std.specs.Prelude.{◌≡◌, ◌∷◌, ◌++◌, length, take};
 ghost use Rattle.laws.specs.Outcome.{Does};
 ghost use Rattle.big_endian.specs.Bytes.{pcm_bytes};
-ghost use Rattle.state.specs.declared.Kind.TheVariants.{OfCoder, OfDecoder};
-ghost use Rattle.state.specs.Layout.{band_values, coder_bytes, decoder_bytes, write_call};
+ghost use Rattle.state.specs.Layout.{byte_of, band_values, coder_bytes, decoder_bytes, write_call};
 
 use crate::{HIGH, Kind, LENGTH, LOW, PAST, Parts, first_byte};
 use big_endian::store;
@@ -37,7 +36,7 @@ fn write_bands(kind: u8, low: Band, high: Band, state: &mut [u8])
 // Writes a state where the bytes have its length, and answers whether they have.
 fn write(kind: Kind, parts: Parts, state: &mut [u8]) -> bool
     ensures { let values = band_values parts.low ++ (band_values parts.high ++ parts.past) in
-        Does (write_call ((elim kind [ OfCoder ↦ 1 | OfDecoder ↦ 2 ]) ∷ pcm_bytes values) state.old) result state.new }
+        Does (write_call (byte_of kind ∷ pcm_bytes values) state.old) result state.new }
 {
     if state.len() != LENGTH {
         return false;
