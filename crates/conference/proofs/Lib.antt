@@ -7,3 +7,4 @@ pub mod Mixing
 pub mod Codec
 pub mod Good
 pub mod Telling
+pub mod Unique

@@ -1,6 +1,6 @@
 -- Cases that tell a wrong definition of the desk. Each is worked by hand.
 -- Assumes nothing.
-use Rattle.std.specs.Prelude.{◌≡◌, refl, true, false, ℕ, ◌+◌, ◌*◌, ℤ, pos, replicate}
+use Rattle.std.specs.Prelude.{◌≡◌, refl, true, false, ℕ, ◌+◌, ◌*◌, ℤ, pos, replicate, Err}
 use mathlib.Core.List.{List, [], ◌∷◌, ◌++◌, map, zip, zip_with}
 use Rattle.g722.specs.Arithmetic.{neg, within, equal, limit, limited, overloads}
 use Rattle.g722.specs.Tables.{ila}
@@ -10,11 +10,13 @@ use Rattle.g722.specs.Records.{reset_band, reset_coder, reset_decoder}
 use Rattle.g722.specs.Opened.{meaning}
 use Rattle.g722.specs.declared.Coder.{Coder}
 use Rattle.g722.specs.declared.Decoder.{Decoder}
+use Rattle.g722.specs.declared.Refusal.TheVariants.{Ports}
 use Rattle.laws.specs.Clamp.{clamp}
 use Rattle.conference.specs.Sums.{sum_of, without, ports_from, others_of, sums_of, mixed}
 use Rattle.conference.specs.Ports.{rl_from, rh_from, rls_from, rhs_from, each_port}
 use Rattle.conference.specs.Tick.{unseated, uneven, any_above, all_good, good_port, good_ports}
 use Rattle.conference.specs.Tick.{signals_to, sums_limited, tick_limited, reset_desk, reset_call}
+use Rattle.conference.specs.Answers.{reset_as}
 use Rattle.conference.specs.declared.Desk.{Desk}
 
 -- ---- what ports hear
@@ -136,3 +138,8 @@ pub reset_places : reset_call 5
     }
 unfolding reset_call reset_desk unseated
 reset_places = refl
+
+-- the desk beside a refusal is the one that is answered
+pub desk_beside : (d : Desk)
+    → reset_as (Err (record { refusal = Ports; desk = d })) ≡ record { number = 9; index = 0; limited = 0; next = d }
+desk_beside d = refl

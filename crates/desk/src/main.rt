@@ -46,7 +46,7 @@ fn told(env: &impl Env, i: usize) -> Result<u8, Misuse> {
 fn desk(env: &impl Env) -> Result<Desk, Misuse>
     ensures { IfOk result (λ desk. (0 < desk.ports) × (desk.ports ≤ 8)) }
 {
-    mixer::reset(told(env, 1)?).map_err(Misuse::Refused)
+    mixer::reset(told(env, 1)?).map_err(|reset| Misuse::Refused(reset.refusal))
 }
 
 // The modes of so many ports. A number above 3 is refused.

@@ -8,11 +8,11 @@ ghost use Rattle.std.specs.Prelude.{◌≡◌, ◌≤◌, length, Ok};
 ghost use Rattle.laws.specs.Outcome.{Does};
 ghost use Rattle.g722.specs.Answers.{answered};
 ghost use Rattle.conference.specs.Answers.{reset_as};
-ghost use Rattle.conference.specs.Tick.{ticked, tick_call, reset_desk, reset_call};
+ghost use Rattle.conference.specs.Tick.{ticked, tick_call, reset_call};
 ghost use Rattle.mixer.specs.Run.{hear_run, send_run};
 
 use check::{any_above, good_ports, uneven, unseated};
-use conference::Desk;
+use conference::{Desk, RefusedReset};
 use g722::{Accepted, Coder, Decoder, Refusal};
 use port::{Signals, heard, sent};
 use sums::{others, total};
@@ -24,19 +24,23 @@ struct Mixed {
     coders: [Coder; 8],
 }
 
-// A desk of so many ports, or 9.
+// A desk of so many ports, or 9 and that desk.
 #[tactic(auto, unfolding(conference::specs::Tick::reset_call, conference::specs::Tick::reset_desk))]
-pub fn reset(ports: u8) -> Result<Desk, Refusal>
-    ensures { reset_as (reset_desk ports) result ≡ reset_call ports }
+pub fn reset(ports: u8) -> Result<Desk, RefusedReset>
+    ensures { reset_as result ≡ reset_call ports }
 {
-    if unseated(ports) {
-        return Err(Refusal::Ports);
-    }
-    Ok(Desk {
+    let desk = Desk {
         ports,
         coders: [coder::reset(); 8],
         decoders: [decoder::reset(); 8],
-    })
+    };
+    if unseated(ports) {
+        return Err(RefusedReset {
+            refusal: Refusal::Ports,
+            desk,
+        });
+    }
+    Ok(desk)
 }
 
 // Every port's octet through its decoder's first step. Each record is updated where it stands.
