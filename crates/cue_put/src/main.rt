@@ -2,18 +2,26 @@
 // The arguments are the mode, 2 or 3, and the file. It has to fill the octets: one byte for 8 octets in mode 2, for 4 in mode 3.
 #![tactic(auto)]
 
-use arrayvec::ArrayVec;
+ghost use Rattle.std.specs.Prelude.{◌≤◌, IfOk, length};
+
 use refusal::Stop;
 use std::env::{Env, FillError};
 use std::io::{ErrorKind, Read, Write};
 use std::rt::Files;
 use std::{fs, io};
 
-// Reads so many bytes, or what is left of the input.
-fn read_full<const N: usize>(input: &mut impl Read, most: u64) -> io::Result<ArrayVec<u8, N>> {
-    let mut bytes = ArrayVec::new();
-    io::copy(&mut input.take(most), &mut bytes)?;
-    Ok(bytes)
+// Reads until there is no more room or the input ends, and answers what there is.
+fn read_full<'a>(input: &mut impl Read, room: &'a mut [u8]) -> io::Result<&'a mut [u8]>
+    ensures { IfOk result (λ bytes. length bytes.now ≤ length room.old) }
+{
+    let mut n = 0;
+    while n < room.len() {
+        match input.read(&mut room[n..])? {
+            0 => break,
+            more => n += more,
+        }
+    }
+    Ok(&mut room[..n])
 }
 
 // Puts bytes into octets, and writes these.
@@ -30,10 +38,12 @@ fn turn(
     file: &mut impl Read,
 ) -> Result<bool, Stop> {
     let most = if mode == 3 { 4000 } else { 8000 };
-    let mut octets = read_full::<8000>(input, most).map_err(Stop::Read)?;
-    let bytes = read_full::<1000>(file, 1000).map_err(Stop::Read)?;
-    send(out, mode, &mut octets, &bytes)?;
-    Ok(octets.len() as u64 == most)
+    let mut room = [0u8; 8000];
+    let octets = read_full(input, &mut room[..most]).map_err(Stop::Read)?;
+    let mut text = [0u8; 1000];
+    let bytes = read_full(file, &mut text).map_err(Stop::Read)?;
+    send(out, mode, octets, bytes)?;
+    Ok(octets.len() == most)
 }
 
 // Turn after turn. A proved loop has to end, and nothing says that the input does: no run has so many turns.

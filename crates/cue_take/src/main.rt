@@ -2,19 +2,25 @@
 // The argument is the mode, 2 or 3. The octets are 8 for each byte in mode 2, and 4 in mode 3.
 #![tactic(auto)]
 
-ghost use Rattle.std.specs.Prelude.{◌≤◌, length};
+ghost use Rattle.std.specs.Prelude.{◌≤◌, IfOk, length};
 
-use arrayvec::ArrayVec;
 use refusal::Stop;
 use std::env::{Env, FillError};
 use std::io;
 use std::io::{Read, Write};
 
-// Reads so many bytes, or what is left of the input.
-fn read_full<const N: usize>(input: &mut impl Read) -> io::Result<ArrayVec<u8, N>> {
-    let mut bytes = ArrayVec::new();
-    io::copy(&mut input.take(N as u64), &mut bytes)?;
-    Ok(bytes)
+// Reads until there is no more room or the input ends, and answers what there is.
+fn read_full<'a>(input: &mut impl Read, room: &'a mut [u8]) -> io::Result<&'a [u8]>
+    ensures { IfOk result (λ bytes. length bytes.now ≤ length room.old) }
+{
+    let mut n = 0;
+    while n < room.len() {
+        match input.read(&mut room[n..])? {
+            0 => break,
+            more => n += more,
+        }
+    }
+    Ok(&room[..n])
 }
 
 // Takes the bytes out of octets, and writes them.
@@ -32,9 +38,10 @@ fn send(out: &mut impl Write, mode: u8, octets: &[u8]) -> Result<(), Stop>
 // so many turns.
 fn run(input: &mut impl Read, out: &mut impl Write, mode: u8) -> Result<(), Stop> {
     for _ in 0..u64::MAX {
-        let octets = read_full::<8000>(input).map_err(Stop::Read)?;
-        send(out, mode, &octets)?;
-        if !octets.is_full() {
+        let mut room = [0u8; 8000];
+        let octets = read_full(input, &mut room).map_err(Stop::Read)?;
+        send(out, mode, octets)?;
+        if octets.len() < 8000 {
             break;
         }
     }

@@ -1,9 +1,8 @@
 // A file to read for each port, and a new file to write for each.
-ghost use Rattle.std.specs.Prelude.{◌≤◌, ◌<◌, IfOk};
+ghost use Rattle.std.specs.Prelude.{◌+◌, ◌≤◌, ◌<◌, IfOk, length, vec_len};
 
 use crate::Misuse;
 use crate::ticks::{Form, Mixing};
-use arrayvec::ArrayVec;
 use refusal::Stop;
 use std::env::Env;
 use std::fs::File;
@@ -33,6 +32,7 @@ fn add<R: Env, F: Fn(&str) -> io::Result<File>>(
     files: &mut Vec<File>,
 ) -> io::Result<()>
     requires { F.IsAlwaysCallable opened.now }
+    ensures { vec_len files.new ≤ vec_len files.old + 1 }
 {
     let mut name = [0u8; 4096];
     let n = rt.arg(i, &mut name).unwrap_or(0);
@@ -51,6 +51,7 @@ fn open_all<R: Env + AllocGlobal, F: Fn(&str) -> io::Result<File>>(
     requires first_bound { first ≤ 1000 }
     requires ports_bound { ports ≤ 8 }
     requires callable { F.IsAlwaysCallable opened }
+    ensures { IfOk result (λ files. vec_len files ≤ ports) }
 {
     let mut files = Vec::new(rt.alloc());
     for i in first..first + ports {
@@ -61,11 +62,18 @@ fn open_all<R: Env + AllocGlobal, F: Fn(&str) -> io::Result<File>>(
     Ok(files)
 }
 
-// Reads so many bytes, or what is left of a file.
-fn read_full<const N: usize>(input: impl Read + Drop) -> io::Result<ArrayVec<u8, N>> {
-    let mut bytes = ArrayVec::new();
-    io::copy(&mut input.take(N as u64), &mut bytes)?;
-    Ok(bytes)
+// Reads until there is no more room or the file ends, and answers what there is.
+fn read_full<'a>(mut file: &File, room: &'a mut [u8]) -> io::Result<&'a [u8]>
+    ensures { IfOk result (λ bytes. length bytes.now ≤ length room.old) }
+{
+    let mut n = 0;
+    while n < room.len() {
+        match file.read(&mut room[n..])? {
+            0 => break,
+            more => n += more,
+        }
+    }
+    Ok(&room[..n])
 }
 
 // Puts a port's octets at its places in the ticks.
@@ -99,8 +107,9 @@ fn read_all(files: &[File], ports: usize, octets: &mut [u8]) -> Result<Columns, 
         most: 0,
     };
     for (port, file) in files.iter().enumerate() {
-        let column = read_full::<1000>(file).map_err(Stop::Read)?;
-        weave(&column, port, ports, octets);
+        let mut room = [0u8; 1000];
+        let column = read_full(file, &mut room).map_err(Stop::Read)?;
+        weave(column, port, ports, octets);
         columns.least = columns.least.min(column.len());
         columns.most = columns.most.max(column.len());
     }

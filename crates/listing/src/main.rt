@@ -1,12 +1,11 @@
 // Lists a recording from standard input: one line per block, each take decoded from reset, and a last line at the first refusal.
 #![tactic(auto)]
 
-ghost use Rattle.std.specs.Prelude.{◌≡◌};
+ghost use Rattle.std.specs.Prelude.{◌≡◌, ◌≤◌, length};
 ghost use Rattle.lines.specs.Lines.{line_of};
 ghost use Rattle.playing.specs.Answer.{played_as};
 ghost use Rattle.listing.specs.Listed.{listed};
 
-use arrayvec::ArrayVec;
 use g722::Refusal;
 use lines::Line;
 use playing::{PlayedBlock, Player};
@@ -49,6 +48,20 @@ fn list(
     }
 }
 
+// Reads until there is no more room, the input ends or a read fails, and answers what there is.
+fn read_full<'a>(input: &mut impl Read, room: &'a mut [u8]) -> &'a [u8]
+    ensures { length result.now ≤ length room.old }
+{
+    let mut n = 0;
+    while n < room.len() {
+        match input.read(&mut room[n..]) {
+            Ok(more) if 0 < more => n += more,
+            _ => break,
+        }
+    }
+    &room[..n]
+}
+
 // Reads a block and lists it; at the end of the input there is no next player. What a failed read leaves of a block is a short one.
 // After a short one it asks once more, since a read that fails is not the end.
 fn turn(
@@ -58,15 +71,15 @@ fn turn(
     before: u64,
     samples: &mut [i16],
 ) -> Result<Option<Player>, Stop> {
-    let mut block = ArrayVec::<u8, 512>::new();
-    let _ = io::copy(&mut input.by_ref().take(512), &mut block);
-    if !block.is_full() {
+    let mut room = [0u8; 512];
+    let block = read_full(input, &mut room);
+    if block.len() < 512 {
         input.read(&mut [0u8; 1]).map_err(Stop::Read)?;
     }
     if block.is_empty() {
         return Ok(None);
     }
-    Ok(Some(list(out, p, before, &block, samples)?))
+    Ok(Some(list(out, p, before, block, samples)?))
 }
 
 // Block after block. A proved loop has to end, and nothing says that the input does: no recording has so many blocks.

@@ -2,17 +2,25 @@
 // The arguments are the take number and the mode, 1 to 3.
 #![tactic(auto)]
 
-use arrayvec::ArrayVec;
+ghost use Rattle.std.specs.Prelude.{◌≤◌, IfOk, length};
+
 use refusal::Stop;
 use std::env::{Env, FillError};
 use std::io;
 use std::io::{Read, Write};
 
-// Reads so many bytes, or what is left of the input.
-fn read_full<const N: usize>(input: &mut impl Read) -> io::Result<ArrayVec<u8, N>> {
-    let mut bytes = ArrayVec::new();
-    io::copy(&mut input.take(N as u64), &mut bytes)?;
-    Ok(bytes)
+// Reads until there is no more room or the input ends, and answers what there is.
+fn read_full<'a>(input: &mut impl Read, room: &'a mut [u8]) -> io::Result<&'a [u8]>
+    ensures { IfOk result (λ bytes. length bytes.now ≤ length room.old) }
+{
+    let mut n = 0;
+    while n < room.len() {
+        match input.read(&mut room[n..])? {
+            0 => break,
+            more => n += more,
+        }
+    }
+    Ok(&room[..n])
 }
 
 // Writes a block of octets.
@@ -25,11 +33,12 @@ fn send(out: &mut impl Write, take: u32, number: u32, mode: u8, octets: &[u8]) -
 // Block after block. A proved loop has to end, and nothing says that the input does: no recording has so many blocks.
 fn run(input: &mut impl Read, out: &mut impl Write, take: u32, mode: u8) -> Result<(), Stop> {
     for number in 0..u32::MAX {
-        let octets = read_full::<480>(input).map_err(Stop::Read)?;
+        let mut room = [0u8; 480];
+        let octets = read_full(input, &mut room).map_err(Stop::Read)?;
         if octets.is_empty() {
             break;
         }
-        send(out, take, number, mode, &octets)?;
+        send(out, take, number, mode, octets)?;
     }
     Ok(())
 }

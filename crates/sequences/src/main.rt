@@ -6,7 +6,7 @@
 mod bands;
 mod text;
 
-ghost use Rattle.std.specs.Prelude.{◌≤◌, IfSome};
+ghost use Rattle.std.specs.Prelude.{◌*◌, ◌≤◌, IfOk, IfSome, length};
 
 use bands::Maker;
 use std::env::{Env, FillError};
@@ -41,7 +41,9 @@ fn opened(files: &impl Files<File = File>, name: &[u8]) -> io::Result<File> {
 }
 
 // Reads until there is no more room, the file ends or a read fails, and answers what there is.
-fn read_full<'a>(file: &mut impl Read, room: &'a mut [u8]) -> &'a [u8] {
+fn read_full<'a>(file: &mut impl Read, room: &'a mut [u8]) -> &'a [u8]
+    ensures { length result.now ≤ length room.old }
+{
     let mut n = 0;
     while n < room.len() {
         match file.read(&mut room[n..]) {
@@ -59,7 +61,9 @@ fn read_text<'a>(
     err: &Stderr,
     name: &[u8],
     room: &'a mut [u8],
-) -> Option<&'a [u8]> {
+) -> Option<&'a [u8]>
+    ensures { IfSome result (λ text. length text.now ≤ length room.old) }
+{
     let mut file = match opened(files, name) {
         Ok(file) => file,
         Err(error) => {
@@ -82,7 +86,9 @@ fn load<'a>(
     err: &Stderr,
     name: &[u8],
     room: &'a mut [Row],
-) -> Result<&'a [Word], Fault> {
+) -> Result<&'a [Word], Fault>
+    ensures { IfOk result (λ words. length words.now ≤ 16 * length room.old) }
+{
     let mut bytes = [0; 80000];
     read_text(files, err, name, &mut bytes)
         .and_then(|text| text::words(text, room))

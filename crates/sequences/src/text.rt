@@ -1,5 +1,5 @@
 // The words of a file as appendix II.4.4 writes it.
-ghost use Rattle.std.specs.Prelude.{◌≤◌, length};
+ghost use Rattle.std.specs.Prelude.{◌*◌, ◌≤◌, IfSome, length};
 
 // A word of 16 bits, the high byte first.
 pub(crate) type Word = [u8; 2];
@@ -37,7 +37,9 @@ fn row(line: &[u8; 66]) -> Option<Row> {
 
 // The words of all data lines, if each is sound and there is room for them.
 // Lines that start with a slash, or are shorter than a data line, hold none.
-pub(crate) fn words<'a>(text: &[u8], room: &'a mut [Row]) -> Option<&'a [Word]> {
+pub(crate) fn words<'a>(text: &[u8], room: &'a mut [Row]) -> Option<&'a [Word]>
+    ensures { IfSome result (λ words. length words.now ≤ 16 * length room.old) }
+{
     let mut n = 0;
     for line in text.split(|c| *c == b'\n') {
         if let Some(line) = line.first_chunk::<66>()

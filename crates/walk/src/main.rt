@@ -1,7 +1,7 @@
 // Walks a recording, lent as a whole, by the reader, and writes the lines of the listing. A recording of up to 128 blocks is read.
 #![tactic(auto)]
 
-ghost use Rattle.std.specs.Prelude.{◌≡◌};
+ghost use Rattle.std.specs.Prelude.{◌≡◌, ◌≤◌, length};
 ghost use Rattle.reader.specs.Walk.{walked, step_at, next_at};
 
 use block::Header;
@@ -32,11 +32,10 @@ fn print(rt: &impl Print, line: Line) -> io::Result<()> {
 }
 
 // The line of what the reader says of a block, with what the player says of its samples; or of a refusal after so many others.
-fn line(
-    read: Result<Header, Refusal>,
-    played: Result<PlayedBlock, Refusal>,
-    before: usize,
-) -> Line {
+#[tactic(auto, unfolding(lines::specs::Lines::line_of))]
+fn line(read: Result<Header, Refusal>, played: Result<PlayedBlock, Refusal>, before: usize) -> Line
+    ensures { result.at ≤ 160 }
+{
     match (read, played) {
         (Ok(h), Ok(b)) => {
             lines::block_line(h.take, h.block, h.mode, h.count, b.first, b.last, b.limited)
@@ -95,7 +94,9 @@ fn run(rt: &(impl Print + Eprint), src: &[u8]) -> io::Result<()> {
 }
 
 // Reads until there is no more room, the input ends or a read fails, and answers what there is.
-fn read_full<'a>(input: &mut impl Read, room: &'a mut [u8]) -> &'a [u8] {
+fn read_full<'a>(input: &mut impl Read, room: &'a mut [u8]) -> &'a [u8]
+    ensures { length result.now ≤ length room.old }
+{
     let mut n = 0;
     while n < room.len() {
         match input.read(&mut room[n..]) {
