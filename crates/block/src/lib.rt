@@ -85,9 +85,11 @@ fn put(take: u32, block: u32, mode: u8, octets: &[u8], out: &mut [u8])
 pub fn write(take: u32, block: u32, mode: u8, octets: &[u8], out: &mut [u8]) -> Result<(), Refusal>
     ensures { Does (write_call take block mode octets.now out.old) (moved result) out.new }
 {
-    if out.len() != 512 {
+    let whole = out.len() == 512;
+    let fits = allowed(mode, octets.len());
+    if !whole {
         Err(Refusal::BlockSize)
-    } else if !allowed(mode, octets.len()) {
+    } else if !fits {
         Err(Refusal::Contents)
     } else {
         put(take, block, mode, octets, out);
@@ -112,10 +114,12 @@ pub fn read(b: &[u8]) -> Result<Header, Refusal>
     if b.len() != 512 {
         return Err(Refusal::BlockSize);
     }
-    if check(&b[0..510]) != two_at(b, 510) {
+    let right = check(&b[0..510]) == two_at(b, 510);
+    let formed = well_formed(b);
+    if !right {
         return Err(Refusal::Check);
     }
-    if !well_formed(b) {
+    if !formed {
         return Err(Refusal::Contents);
     }
     Ok(Header {

@@ -125,10 +125,12 @@ fn run(c: Kept, samples: &[i16], octets: &mut [u8]) -> Accepted<Kept>
 pub fn code(c: Coder, samples: &[i16], octets: &mut [u8]) -> Result<Accepted<Coder>, Refusal>
     ensures { Does (code_call c samples.now octets.old) (answered c result) octets.new }
 {
-    if misfit(samples.len(), octets.len()) {
+    let unfit = misfit(samples.len(), octets.len());
+    let good = good_coder(c);
+    if unfit {
         return Err(Refusal::Length);
     }
-    if !good_coder(c) {
+    if !good {
         return Err(Refusal::Record);
     }
     if !all_in_range(samples) {

@@ -102,13 +102,15 @@ pub fn decode(
 ) -> Result<Accepted<Decoder>, Refusal>
     ensures { Does (decode_call d told octets.now samples.old) (answered d result) samples.new }
 {
+    let unfit = misfit(samples.len(), octets.len());
+    let good = good_decoder(d);
     if told > 3 {
         return Err(Refusal::Mode);
     }
-    if misfit(samples.len(), octets.len()) {
+    if unfit {
         return Err(Refusal::Length);
     }
-    if !good_decoder(d) {
+    if !good {
         return Err(Refusal::Record);
     }
     Ok(given(run(in_force(told), Kept { decoder: d }, octets, samples)))

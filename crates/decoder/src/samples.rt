@@ -67,10 +67,12 @@ pub fn join(
 ) -> Result<Accepted<Decoder>, Refusal>
     ensures { Does (join_call d low.now high.now samples.old) (answered d result) samples.new }
 {
-    if misfit(samples.len(), low.len()) || high.len() != low.len() {
+    let unfit = misfit(samples.len(), low.len());
+    let good = good_decoder(d);
+    if unfit || high.len() != low.len() {
         return Err(Refusal::Length);
     }
-    if !good_decoder(d) {
+    if !good {
         return Err(Refusal::Record);
     }
     if !all_in_range(low) || !all_in_range(high) {

@@ -98,13 +98,15 @@ pub fn hear(
     ensures { Does (hear_call d told octets.now low.old high.old) (answered d result)
         (low.new, high.new) }
 {
+    let unfit = unpaired(octets.len(), low.len(), high.len());
+    let good = good_decoder(d);
     if told > 3 {
         return Err(Refusal::Mode);
     }
-    if unpaired(octets.len(), low.len(), high.len()) {
+    if unfit {
         return Err(Refusal::Length);
     }
-    if !good_decoder(d) {
+    if !good {
         return Err(Refusal::Record);
     }
     Ok(given(hear_all(in_force(told), Kept { decoder: d }, octets, low, high)))

@@ -21,7 +21,7 @@ returns-then-not-all_in_range c = grind (arith, some_bad)
 
 pub returns : goal.returns
 returns c =
-    let fit = sym c.misfit.ensures ∙ c.if-misfit.false in
-    let good = sym c.good_coder.ensures ∙ c.if-not-good_coder.false in
+    let fit = sym c.misfit-unfit.ensures ∙ c.if-unfit.false in
+    let good = sym c.good_coder-good.ensures ∙ c.if-not-good.false in
     let clean = none_bad _ (sym c.all_in_range.ensures ∙ c.if-not-all_in_range.false) in
     does (accepted _ _ _ fit good clean) c.run-limited.ensures.answer c.run-limited.ensures.left

@@ -26,8 +26,8 @@ pub returns-then-not-all_in_range : goal.returns-then-not-all_in_range
 unfolding first_bad_pair
 returns-then-not-all_in_range c =
     let a = c.args in
-    let fit = fits _ _ _ c.misfit.ensures c.if-misfit.false c.if-high-low.false in
-    let good = sym c.good_decoder.ensures ∙ c.if-not-good_decoder.false in
+    let fit = fits _ _ _ c.misfit-unfit.ensures c.if-unfit.false c.if-high-low.false in
+    let good = sym c.good_decoder-good.ensures ∙ c.if-not-good.false in
     let looked : (all_in_range a.low.now && all_in_range a.high.now) ≡ false =
     elim c.then-not-all_in_range.branch [
       | then-not-all_in_range-via-then-not-all_in_range w ↦ rw (sym c.all_in_range.ensures ∙ w.if-not-all_in_range.true)
@@ -44,8 +44,8 @@ returns-then-not-all_in_range c =
 pub returns : goal.returns
 unfolding joined
 returns c =
-    let fit = fits _ _ _ c.misfit.ensures c.if-misfit.false c.if-high-low.false in
-    let good = sym c.good_decoder.ensures ∙ c.if-not-good_decoder.false in
+    let fit = fits _ _ _ c.misfit-unfit.ensures c.if-unfit.false c.if-high-low.false in
+    let good = sym c.good_decoder-good.ensures ∙ c.if-not-good.false in
     let low = sym c.all_in_range.ensures ∙ c.if-not-all_in_range.false in
     let high = sym c.all_in_range-else-not-all_in_range.ensures ∙ c.if-not-all_in_range-2.false in
     let clean = none_bad_pair _ _ c.if-high-low.false (rw (low, high)) in
