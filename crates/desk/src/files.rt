@@ -7,7 +7,7 @@ use refusal::Stop;
 use std::env::Env;
 use std::fs::File;
 use std::io;
-use std::io::{ErrorKind, Read, Write};
+use std::io::{ErrorKind, Read, Stderr, Write};
 use std::rt::Files;
 
 // An open file to read and one to write for each port.
@@ -41,9 +41,17 @@ fn add<R: Env, F: Fn(&str) -> io::Result<File>>(
     Ok(())
 }
 
-// Opens a file for each port, the first of them that of argument `first`.
+// Says that the file that argument i names is not opened.
+fn say_unopened(env: &impl Env, err: &Stderr, i: usize, error: io::Error) {
+    let mut name = [0u8; 4096];
+    let n = env.arg(i, &mut name).unwrap_or(0);
+    refusal::fail(err, &name[..n], error);
+}
+
+// Opens a file for each port, the first of them that of argument `first`. One that cannot be opened is said while the others are open.
 fn open_all<R: Env + AllocGlobal, F: Fn(&str) -> io::Result<File>>(
     rt: &R,
+    err: &Stderr,
     first: usize,
     ports: usize,
     opened: F,
@@ -56,7 +64,8 @@ fn open_all<R: Env + AllocGlobal, F: Fn(&str) -> io::Result<File>>(
     let mut files = Vec::new(rt.alloc());
     for i in first..first + ports {
         if let Err(error) = add(rt, i, &opened, &mut files) {
-            return Err(Misuse::Unopened(i, error));
+            say_unopened(rt, err, i, error);
+            return Err(Misuse::Unopened);
         }
     }
     Ok(files)
@@ -153,11 +162,12 @@ impl Form for Ports {
 // write: no recording is overwritten.
 pub(crate) fn run<R: Files<File = File> + Env + AllocGlobal>(
     rt: &R,
+    err: &Stderr,
     mixing: &mut Mixing,
 ) -> Result<(), Misuse> {
     let ports = mixing.ports();
-    let inputs = open_all(rt, 2 + ports, ports, |name| File::open(rt, name))?;
-    let outputs = open_all(rt, 2 + 2 * ports, ports, |name| {
+    let inputs = open_all(rt, err, 2 + ports, ports, |name| { File::open(rt, name) })?;
+    let outputs = open_all(rt, err, 2 + 2 * ports, ports, |name| {
         File::options().write(true).create_new(true).open(rt, name)
     })?;
     mixing.run(&mut Ports { inputs, outputs });

@@ -15,7 +15,6 @@ use conference::Desk;
 use g722::Refusal;
 use std::env::{Env, FillError};
 use std::fs::File;
-use std::io;
 use std::io::Stderr;
 use std::rt::Files;
 use stream::Streams;
@@ -28,8 +27,8 @@ enum Misuse {
     Unfit,
     // A number in them is refused.
     Refused(Refusal),
-    // The file that one names, the argument of this number, is not opened.
-    Unopened(usize, io::Error),
+    // A file that one names is not opened, which is said.
+    Unopened,
 }
 
 // The number below 256 that argument i gives.
@@ -78,7 +77,7 @@ fn has_last_word(env: &impl Env, i: usize) -> bool
 }
 
 // Runs the form that the number of words tells.
-fn run(rt: &HostRuntime) -> Result<(), Misuse> {
+fn run(rt: &HostRuntime, err: &Stderr) -> Result<(), Misuse> {
     let desk = desk(rt)?;
     let ports = usize::from(desk.ports);
     let by_files = has_last_word(rt, 1 + 3 * ports);
@@ -87,7 +86,7 @@ fn run(rt: &HostRuntime) -> Result<(), Misuse> {
     }
     let mut mixing = Mixing::new(desk, modes(rt, desk.ports)?, rt.stderr());
     if by_files {
-        return files::run(rt, &mut mixing);
+        return files::run(rt, err, &mut mixing);
     }
     let mut streams = Streams {
         input: rt.stdin(),
@@ -97,18 +96,10 @@ fn run(rt: &HostRuntime) -> Result<(), Misuse> {
     Ok(())
 }
 
-// Says that the file that argument i names is not opened.
-fn say_unopened(env: &impl Env, err: &Stderr, i: usize, error: io::Error) {
-    let mut name = [0u8; 4096];
-    let n = env.arg(i, &mut name).unwrap_or(0);
-    refusal::fail(err, &name[..n], error);
-}
-
 fn main(rt: HostRuntime) {
     let err = rt.stderr();
-    match run(&rt) {
-        Ok(()) => return,
-        Err(Misuse::Unopened(i, error)) => return say_unopened(&rt, &err, i, error),
+    match run(&rt, &err) {
+        Ok(()) | Err(Misuse::Unopened) => return,
         Err(Misuse::Refused(refusal)) => refusal::say(&err, refusal.number(), 0),
         Err(Misuse::Unfit) => {}
     }
