@@ -1,5 +1,5 @@
 -- A block is good exactly if reading it was no refusal.
-use Rattle.std.proofs.Common.{◌≡◌, refl, sym, ◌∙◌, Bool, Result, Ok, Err, eqb}
+use Rattle.std.proofs.Common.{rules, ◌≡◌, refl, Result, Ok, Err, eqb}
 use Rattle.std.specs.Result.{is_ok}
 use borrow.Author.Tests.{ne_eqb}
 use Rattle.g722.proofs.Tells.{refused_number}
@@ -16,8 +16,8 @@ good (Err r) = ne_eqb (number_of r) 0 (refused_number r)
 
 pub returns-then-is_ok : goal.returns-then-is_ok
 unfolding stood
-returns-then-is_ok c = rw (good c.args.block, ← c.is_ok.ensures.value, c.if-is_ok.true) refl
+returns-then-is_ok c = search (rules, good c.args.block)
 
 pub returns-else-is_ok : goal.returns-else-is_ok
 unfolding stood
-returns-else-is_ok c = rw (good c.args.block, ← c.is_ok.ensures.value, c.if-is_ok.false) refl
+returns-else-is_ok c = search (rules, good c.args.block)
