@@ -14,9 +14,7 @@ use arrayvec::ArrayVec;
 use conference::Desk;
 use g722::Refusal;
 use std::env::{Env, FillError};
-use std::fs::File;
 use std::io::Stderr;
-use std::rt::Files;
 use stream::Streams;
 use ticks::Mixing;
 

@@ -126,7 +126,9 @@ fn say_wrong(err: &Stderr, name: &[u8], fault: Fault) -> io::Result<()> {
 }
 
 // An argument, or nothing where there is no room for it.
-fn argument<'a>(env: &impl Env, i: usize, room: &'a mut [u8]) -> &'a [u8] {
+fn argument<'a>(env: &impl Env, i: usize, room: &'a mut [u8]) -> &'a [u8]
+    ensures { length result.now ≤ length room.old }
+{
     match env.arg(i, room) {
         Ok(n) => &room[..n],
         Err(_) => &[],
