@@ -1,8 +1,9 @@
 -- Bit after bit, what they spell.
 use Rattle.std.proofs.Common.{◌≡◌, refl, ◌∙◌, sym, ap, rules, tests, arith, List, [], ◌∷◌, ℕ, zero, suc, ◌+◌, ◌-◌, ◌*◌, ◌^◌, ◌<◌, ◌≤◌}
 use Rattle.std.proofs.Common.{length, get_or, lit<, take, drop, fold, add-one, pow-suc, length-drop, length-take-le}
+use mathlib.Core.Path.{subst}
 use Rattle.std.specs.List.{range_with_len}
-use Rattle.std.specs.Iterator.{Yields}
+use Rattle.std.specs.Iterator.{Yields, CallableAtEachTurn}
 use Rattle.std.specs.declared.ops.Range.{Range}
 use Rattle.std.proofs.iter.Yields.{nat_range_steps}
 use Rattle.std.proofs.Math.Nat.{pow-le-pow_right}
@@ -28,22 +29,29 @@ folded b v n (suc w) h =
     let e : suc w - 1 ≡ w = omega arith in
     folded b (v * 2 + get_or b n 0) (n + 1) w (omega arith) ∙ (rw e at (spelt_turn v n (suc w) b (omega arith) (omega arith)))
 
--- after so many bits the closure has what it captured, and a number of so many bits: so there is room for the next, which is there
+-- after so many bits the closure is what it was, and the number one of so many bits: so there is room for the next
+roomy : {F : Type 0} (R : F × ℕ → ℕ → F × ℕ → Type 0) (Q : F × ℕ → ℕ → Type 0) (s : Range ℕ) (f : F) → s.end ≤ s.start + 8
+    → ((q v : F × ℕ) (x : ℕ) → R q x v → (v.0 ≡ q.0) × (v.1 < (q.1 + 1) * 2))
+    → ((n x : ℕ) → n < 128 → s.start ≤ x → x < s.end → Q (f, n) x) → CallableAtEachTurn nat_range_steps R Q s (f, 0)
+roomy R Q s f short turn asks =
+    serves_by R (λ (xs : List ℕ) p. (p.0 ≡ f) × (p.1 < 2 ^ length xs))
+    (λ xs q x v j r.
+    let less = turn q v x r in
+    (less.0 ∙ j.0, rw (length_push, add-one, pow-suc 2 (length xs)) (omega (arith, j.1, less.1))))
+    nat_range_steps Q s (f, 0) (refl, lit< tt)
+    (λ xs t q x u y e j.
+    let p = place xs s t y in
+    let l : length xs ≤ 7 = omega (arith, p.0, p.1, e.1.0, short) in
+    let m : 2 ^ length xs ≤ 2 ^ 7 = pow-le-pow_right (omega arith) l in
+    let small : q.1 < 128 = omega (arith, j.1) in
+    subst (λ (g : _). Q (g, q.1) x) (sym j.0) (asks q.1 x small (omega (arith, p.0, e.1.1)) (omega (arith, p.1, e.1.0, e.1.1))))
+
 pub fold-requires-clause-callable : goal.fold-requires-clause-callable
 fold-requires-clause-callable c =
     let a = c.args in
-    serves_by _ (λ (xs : List ℕ) p. (p.0.0.now ≡ a.xs.now) × (p.0.1.now ≡ a.k) × (p.1 < 2 ^ length xs))
-    (λ xs q x v j r.
-    let less : v.1 < (q.1 + 1) * 2 = search (rules, tests) in
-    (search (rules, tests), search (rules, tests), rw (length_push, add-one, pow-suc 2 (length xs)) (omega (arith, j.2, less))))
-    _ _ _ _ (refl, refl, lit< tt)
-    (λ xs t q x u y e j.
-    let p = place xs _ t y in
-    let l : length xs ≤ 7 = omega (arith, p.0, p.1, e.1.0) in
-    let m : 2 ^ length xs ≤ 2 ^ 7 = pow-le-pow_right (omega arith) l in
-    let small : q.1 < 128 = omega (arith, j.2) in
-    let within : x < a.k * length a.xs.now = omega (arith, p.0, p.1, e.1.0, e.1.1) in
-    let inside : x < q.0.1.now * length q.0.0.now = rw (j.0, j.1) within in
+    roomy _ _ _ _ (omega arith) (λ q v x r. (search (rules, tests), search (rules, tests)))
+    (λ m x small low high.
+    let within : x < a.k * length a.xs.now = omega (arith, high) in
     search (rules, tests))
 
 pub returns : goal.returns
